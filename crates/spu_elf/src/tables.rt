@@ -128,7 +128,8 @@ pub struct Group<'a> {
 
 /// How many of the relocations are in section k before the first that isn't.
 pub fn group_len(relocs: &[Reloc], k: usize) -> usize
-    ensures { result ≡ prefix_len (is_in k) relocs.now }
+    ensures value { result ≡ prefix_len (is_in k) relocs.now }
+    ensures within { result ≤ length relocs.now }
 {
     for (i, r) in relocs.iter().enumerate() {
         if r.section as usize != k {
