@@ -11,13 +11,13 @@ use Rattle.spu_isa.specs.declared.operation.Op.{Op}
 use Rattle.spu_isa.specs.declared.operation.Op.TheVariants as op
 use Rattle.spu_isa.specs.declared.instruction.Inst.{Inst}
 use Rattle.spu_lift.specs.declared.program.Label.TheVariants as label
-use Rattle.spu_lift.specs.declared.program.Label as program
+use Rattle.spu_lift.specs.declared.program.Label as lifted
 use Rattle.spu_lift.specs.declared.program.Operand.{Operand}
 use Rattle.spu_lift.specs.declared.program.Operand.TheVariants as operand
 use Rattle.spu_lift.specs.declared.program.SymInst.{SymInst}
 use Rattle.spu_lift.specs.declared.program.Function.{Function}
 use Rattle.spu_lift.specs.declared.program.WordLabel.{WordLabel}
-use Rattle.spu_lift.specs.declared.program.Part as program
+use Rattle.spu_lift.specs.declared.program.Part as section
 use Rattle.spu_lift.specs.declared.program.Prog.{Prog}
 use Rattle.spu_ideal.specs.declared.ending.IdealEnd.{IdealEnd}
 use Rattle.spu_ideal.specs.declared.ending.IdealEnd.TheVariants as ending
@@ -145,7 +145,7 @@ unfoldable pub step : Prog → Sym → Sym
 step p s = unless_ended s.ended s (obeys (instruction_at p s.f s.i) p s)
 
 -- the data of a program: the labels in their places, and the bytes of its parts
-abbrev pub of_code : program.Label → Label
+abbrev pub of_code : lifted.Label → Label
 of_code (label.Fun f) = Fun f
 of_code (label.Place f i) = Place f i
 
@@ -153,7 +153,7 @@ abbrev pub labelled : List WordLabel → ℕ → Symbol → Symbol
 labelled [] j other = other
 labelled (l ∷ ls) j other = if nat_le l.offset j && nat_lt j (l.offset + 4) then Part (of_code l.label) (j - l.offset) else labelled ls j other
 
-abbrev pub data_byte : List program.Part → ℕ → Symbol
+abbrev pub data_byte : List section.Part → ℕ → Symbol
 data_byte [] k = Num 0
 data_byte (part ∷ ps) k =
     if nat_le part.address k && nat_lt k (part.address + part.size)

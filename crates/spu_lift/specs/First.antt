@@ -3,8 +3,8 @@
 use Rattle.std.specs.Prelude.{◌≡◌, ℕ, ◌*◌, ◌<◌, true, List, [], ◌∷◌, length, slice_get, Some, codes}
 use Rattle.spu_word.specs.Bytes.{be_number}
 use Rattle.spu_isa.specs.Table.{Decodes}
-use Rattle.spu_elf.specs.declared.object.Section.{Section}
-use Rattle.spu_elf.specs.declared.object.Object.{Object}
+use Rattle.spu_elf.specs.declared.objects.Section.{Section}
+use Rattle.spu_elf.specs.declared.objects.Object.{Object}
 use Rattle.spu_lift.specs.declared.program.Operand.TheVariants as operand
 use Rattle.spu_lift.specs.declared.program.SymInst.{SymInst}
 use Rattle.spu_lift.specs.declared.program.Function.{Function}
