@@ -1,3 +1,4 @@
 pub mod Spelling
 pub mod Validity
+pub mod First
 pub mod Views
