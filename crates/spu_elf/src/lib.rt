@@ -2,11 +2,14 @@
 #![tactic(auto)]
 
 pub mod drafts;
+pub mod first_form;
+pub mod names;
 pub mod objects;
 pub mod tables;
 pub mod write_executable;
 pub mod write_relocatable;
 
+pub use first_form::is_first;
 pub use objects::{Exec, Object, Reloc, SecKind, Section, Segment, SymKind, SymPlace, Symbol};
 pub use write_executable::write_exec;
 pub use write_relocatable::write_object;
