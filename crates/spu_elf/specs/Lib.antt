@@ -2,4 +2,3 @@ pub mod Spelling
 pub mod Validity
 pub mod First
 pub mod Views
-pub mod First

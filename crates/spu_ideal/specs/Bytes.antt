@@ -1,11 +1,12 @@
 -- Symbolic bytes: a number, a part of a label, or Unknown. A label names a place of code that has no address yet; a
 -- link is what a call leaves in register 0. Moves keep bytes as they are; every other instruction gives a number in
 -- each byte all of whose sources are numbers, and else Unknown.
-use Rattle.std.specs.Prelude.{◌≡◌, ℕ, zero, suc, ◌+◌, ◌*◌, ◌==◌, ◌&&◌, if◌then◌else◌, Bool, true, false, List, [], ◌∷◌, map, Option, Some, None, slice_index, slice_index_or, bit_or}
+use Rattle.std.specs.Prelude.{◌≡◌, ℕ, zero, suc, ◌+◌, ◌*◌, ◌^◌, ◌==◌, ◌&&◌, if◌then◌else◌, Bool, true, false, List, [], ◌∷◌, map, Option, Some, None, slice_index, slice_index_or}
 use Rattle.std.specs.List.{range_with_len}
 use Rattle.spu_isa.specs.declared.operation.Op.{Op}
 use Rattle.spu_isa.specs.declared.instruction.Inst.{Inst}
-use Rattle.spu_exec.specs.Lanes.{value, Source, FromRa, FromRb, FromRc, FromRt, reads}
+use Rattle.spu_exec.specs.Values.{value}
+use Rattle.spu_exec.specs.Reads.{Source, FromRa, FromRb, FromRc, FromRt, reads}
 
 -- a function has 4 bytes, a place of one too, and a link 16; in a link, i is at most the function's length
 pub data Label : Type 0 where
@@ -46,7 +47,7 @@ number_of (Part l k) = 0
 number_of Unknown = 0
 
 abbrev pub known : Symbol → Symbol → Symbol → Symbol → Option ℕ
-known (Num a) (Num b) (Num c) (Num d) = Some (a * 256 * 256 * 256 + b * 256 * 256 + c * 256 + d)
+known (Num a) (Num b) (Num c) (Num d) = Some (a * 256 ^ 3 + b * 256 ^ 2 + c * 256 + d)
 known _ _ _ _ = None
 
 -- word k of a quad, where its four bytes are numbers
@@ -75,16 +76,15 @@ same_label (Place f i) (Place g j) = (f == g) && (i == j)
 same_label (Link f i) (Link g j) = (f == g) && (i == j)
 same_label _ _ = false
 
--- a number or a part stays where the other byte is 0; two equal parts are that part
-abbrev pub or_of_symbols : Symbol → Symbol → Symbol
-or_of_symbols (Num v) (Num w) = Num (bit_or v w)
-or_of_symbols (Num zero) (Part l k) = Part l k
-or_of_symbols (Part l k) (Num zero) = Part l k
-or_of_symbols (Part l k) (Part m j) = if same_label l m && (k == j) then Part l k else Unknown
-or_of_symbols _ _ = Unknown
+-- `or` moves a part of a label where the other byte is the number 0 or the same part; of two numbers it is computed
+abbrev pub moved_by_or : Symbol → Symbol → Symbol → Symbol
+moved_by_or (Part l k) (Num zero) computed = Part l k
+moved_by_or (Num zero) (Part l k) computed = Part l k
+moved_by_or (Part l k) (Part m j) computed = if same_label l m && (k == j) then Part l k else Unknown
+moved_by_or _ _ computed = computed
 
-abbrev pub or_of : List Symbol → List Symbol → List Symbol
-or_of a b = sixteen (λ k. or_of_symbols (symbol_at a k) (symbol_at b k))
+abbrev pub or_of : Inst → List Symbol → List Symbol → List Symbol → List Symbol → List Symbol
+or_of x a b c t = sixteen (λ k. moved_by_or (symbol_at a k) (symbol_at b k) (computed_byte x a b c t k))
 
 -- whether a quad is a link, in all 16 bytes
 abbrev pub is_part : Label → ℕ → Symbol → Bool

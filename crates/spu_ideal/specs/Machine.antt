@@ -120,7 +120,7 @@ acts_plain op.Ai p x s = computes p x s
 acts_plain op.Sf p x s = computes p x s
 acts_plain op.And p x s = computes p x s
 acts_plain op.Xor p x s = computes p x s
-acts_plain op.Or p x s = sets p x.rt (or_of (s.regs x.ra) (s.regs x.rb)) s
+acts_plain op.Or p x s = sets p x.rt (or_of x (s.regs x.ra) (s.regs x.rb) (s.regs x.rc) (s.regs x.rt)) s
 acts_plain op.Wrch p x s = if x.ra == 28 then sends p (known_word (s.regs x.rt) 0) s else outside reason.Target s
 acts_plain op.Bi p x s = if x.ra == 0 then returns p s.calls s else outside reason.Target s
 acts_plain op.Lnop p x s = goes p s.f (s.i + 1) s s

@@ -11,10 +11,10 @@ use Rattle.spu_isa.specs.declared.operation.Kind.TheVariants as kind
 use Rattle.spu_isa.specs.declared.instruction.Inst.{Inst}
 use Rattle.spu_isa.specs.Table.{row_of}
 use Rattle.spu_isa.specs.Decoding.{decoded}
-use Rattle.spu_exec.specs.Lanes.{value}
-use Rattle.spu_exec.specs.Branches.{holds, taken, place}
-use Rattle.spu_exec.specs.Channels.{is_stored, count_of}
-use Rattle.spu_ls.specs.Stores.{Store, load, fetch, save, code_mask}
+use Rattle.spu_exec.specs.Values.{value}
+use Rattle.spu_exec.specs.Places.{code_mask, holds, taken, place}
+use Rattle.spu_exec.specs.Channels.{is_written, is_counted, count}
+use Rattle.spu_ls.specs.Stores.{Store, load, fetch, save}
 use Rattle.spu_ls.specs.declared.ending.RunEnd.{RunEnd}
 use Rattle.spu_ls.specs.declared.ending.RunEnd.TheVariants as ending
 
@@ -74,7 +74,7 @@ writes n word p s =
     if n == 28 then sends word p s
     else (if n == 23 then updates word p s
     else (if n == 21 then ends ending.TransferFault s
-    else (if is_stored n then record s { channels = put_word n word s.channels; pc = p; steps = s.steps + 1 }
+    else (if is_written n then record s { channels = put_word n word s.channels; pc = p; steps = s.steps + 1 }
     else ends (ending.BadChannel n) s)))
 
 -- the next word of the inbound mailbox goes into register t
@@ -95,19 +95,19 @@ reads n t p s =
     else (if n == 12 then sets t (quad_of (s.channels 22) 0 0 0) p s
     else ends (ending.BadChannel n) s))
 
--- the count of a channel goes into register t
-abbrev pub counts : Option ℕ → ℕ → ℕ → ℕ → State → State
-counts None n t p s = ends (ending.BadChannel n) s
-counts (Some count) n t p s = sets t (quad_of count 0 0 0) p s
-
 abbrev pub is_pending : Option ℕ → Bool
 is_pending None = false
 is_pending (Some update) = true
 
+-- the count of a channel goes into register t
+abbrev pub counts : ℕ → ℕ → ℕ → State → State
+counts n t p s =
+    if is_counted n then sets t (quad_of (count n (is_pending s.update) (length s.mail)) 0 0 0) p s else ends (ending.BadChannel n) s
+
 abbrev pub uses_channel : Op → Inst → ℕ → State → State
 uses_channel op.Wrch x p s = writes x.ra (word_of (s.regs x.rt) 0) p s
 uses_channel op.Rdch x p s = reads x.ra x.rt p s
-uses_channel _ x p s = counts (count_of x.ra (is_pending s.update) (length s.mail)) x.ra x.rt p s
+uses_channel _ x p s = counts x.ra x.rt p s
 
 -- what an instruction of a kind does, where p is the place after it
 abbrev pub acts : Kind → Inst → ℕ → State → State

@@ -2,7 +2,8 @@
 use Rattle.std.specs.Prelude.{ℕ, List, [], ◌∷◌, Option, None, replicate, nat_lt, if◌then◌else◌}
 use Rattle.spu_elf.specs.declared.objects.Segment.{Segment}
 use Rattle.spu_elf.specs.declared.objects.Exec.{Exec}
-use Rattle.spu_ls.specs.Stores.{Store, placed, code_mask}
+use Rattle.spu_exec.specs.Places.{code_mask}
+use Rattle.spu_ls.specs.Stores.{Store, placed}
 use Rattle.spu_ls.specs.Machine.{State}
 
 -- the first segment is the load segment

@@ -1,5 +1,5 @@
 -- The local store as a function from addresses to bytes (SPU ISA 1.2, "Local storage"): its words and quads, a quad
--- written to it, and the masks of addresses.
+-- written to it.
 use Rattle.std.specs.Prelude.{ℕ, zero, suc, ◌+◌, ◌-◌, ◌*◌, ◌/◌, ◌%◌, ◌^◌, ◌&&◌, nat_lt, nat_le, if◌then◌else◌, List, [], ◌∷◌, length, slice_index}
 
 -- what each address holds
@@ -26,10 +26,6 @@ placed a bytes m = λ k. if nat_le a k && nat_lt k (a + length bytes) then slice
 -- the store with a quad written at an address
 unfoldable pub save : Store → ℕ → List ℕ → Store
 save m a quad = λ k. if nat_le a k && nat_lt k (a + 16) then slice_index quad (k - a) else m k
-
--- a code address is a multiple of 4 below 262,144
-abbrev pub code_mask : ℕ → ℕ
-code_mask n = n / 4 % 65536 * 4
 
 -- a list of bytes as a store
 abbrev pub bytes_of : List ℕ → Store
