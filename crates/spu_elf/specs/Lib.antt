@@ -1,4 +1,5 @@
 pub mod Spelling
 pub mod Validity
 pub mod First
+pub mod FirstImage
 pub mod Views
