@@ -1,3 +1,4 @@
+pub mod ExtentLemmas
 pub mod FirstFiles
 pub mod FirstImages
 pub mod FirstValid

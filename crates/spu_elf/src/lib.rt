@@ -5,6 +5,7 @@ pub mod drafts;
 pub mod faults;
 pub mod first_form;
 pub mod images;
+pub mod lengths;
 pub mod names;
 pub mod objects;
 pub mod read_first;
