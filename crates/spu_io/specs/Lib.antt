@@ -1,0 +1,6 @@
+pub mod Outside
+pub mod FaultLog
+pub mod NameTable
+pub mod MemFiles
+pub mod MemSink
+pub mod Quiet
