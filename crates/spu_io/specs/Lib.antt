@@ -4,3 +4,5 @@ pub mod NameTable
 pub mod MemFiles
 pub mod MemSink
 pub mod Quiet
+pub mod Transfer
+pub mod Disk

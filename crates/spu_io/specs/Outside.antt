@@ -1,6 +1,10 @@
 -- What is known of files and of a sink: what each name holds, which call failed last, and how a call
 -- may change them. A name is its bytes.
-use Rattle.std.specs.Prelude.{◌≡◌, ◌≢◌, ℕ, ◌+◌, ◌≤◌, min, ◌++◌, List, Option, Some, None, take}
+use Rattle.std.specs.Prelude.{◌≡◌, ◌≢◌, ℕ, ◌+◌, ◌≤◌, min, ◌++◌, List, Option, Some, None, Result, Ok, Err, take}
+use Rattle.spu_io.specs.declared.faults.FileFault.{FileFault}
+use Rattle.spu_io.specs.declared.faults.FileFault.TheVariants as file
+use Rattle.spu_io.specs.declared.faults.SinkFault.{SinkFault}
+use Rattle.spu_io.specs.declared.faults.SinkFault.TheVariants as sink
 
 -- what each name holds, if anything
 abbrev pub Names : Type 0
@@ -15,6 +19,19 @@ pub data Last : Type 0 where
 -- a count of 64 bits rose, or stands at its last value
 abbrev pub Rose : ℕ → ℕ → Type 0
 Rose before now = min (before + 1) 18446744073709551615 ≤ now
+
+-- what a call that answered so did to the count of faults and the last fault: it answers Failed only
+-- where the count rose, and is then the last fault itself; any other call leaves both
+abbrev pub Counted : {T : Type 0} → Result T FileFault → Last → ℕ → ℕ → Last → Last → Type 0
+Counted (Ok value) call before now last last_now = (now ≡ before) × (last_now ≡ last)
+Counted (Err file.Failed) call before now last last_now = Rose before now × (last_now ≡ call)
+Counted (Err file.OutOfMemory) call before now last last_now = (now ≡ before) × (last_now ≡ last)
+
+-- the same of a put, which keeps no name
+abbrev pub PutCounted : {T : Type 0} → Result T SinkFault → ℕ → ℕ → Type 0
+PutCounted (Ok value) before now = now ≡ before
+PutCounted (Err sink.Failed) before now = Rose before now
+PutCounted (Err sink.OutOfMemory) before now = now ≡ before
 
 -- a read gave the first bytes of what is held: all, or the first 4,194,305
 abbrev pub Cut : Option (List ℕ) → List ℕ → Type 0
@@ -46,6 +63,12 @@ abbrev pub Spoiled : Option Names → Option Names → List ℕ → Type 0
 Spoiled None now name = Unit {0}
 Spoiled (Some before) None name = ⊥
 Spoiled (Some before) (Some now) name = Others before now name
+
+-- what a write that answered so did to what names hold
+abbrev pub Written : {T : Type 0} → Result T FileFault → Option Names → Option Names → List ℕ → List ℕ → Type 0
+Written (Ok value) before now name bytes = Wrote before now name bytes
+Written (Err file.Failed) before now name bytes = Spoiled before now name
+Written (Err file.OutOfMemory) before now name bytes = now ≡ before
 
 -- a piece was put at the end, where it is told what was put
 abbrev pub Gained : Option (List ℕ) → Option (List ℕ) → List ℕ → Type 0

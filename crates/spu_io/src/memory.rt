@@ -1,7 +1,9 @@
 //! Files and a sink in memory, of which some calls fail: for tests.
 
-ghost use Rattle.std.specs.Prelude.{◌≡◌, ◌≤◌, ◌+◌, min, List, [], None, Some, OnOk, OnErr, IsTrue, ◌↔◌, Contains};
-ghost use Rattle.spu_io.specs.Outside.{Rose, Nothing, Replaced};
+ghost use Rattle.std.specs.Prelude.{◌≡◌, ◌≤◌, ◌++◌, ◌⊎◌, ◌↔◌, List, [], None, Some, IfOk, OnOk, OnErr, IsErr, IsErrOf, IsTrue, Contains};
+ghost use Rattle.spu_io.specs.Outside.{Nothing, Read, Write, Cut, Replaced, Written, Counted, PutCounted};
+ghost use Rattle.spu_io.specs.declared.faults.FileFault.TheVariants as file;
+ghost use Rattle.spu_io.specs.declared.faults.SinkFault.TheVariants as sink;
 
 use crate::fault_log::{FaultLog, LastFault, copy_of};
 use crate::faults::{FileFault, SinkFault};
@@ -22,7 +24,7 @@ pub struct MemFiles {
 
 impl MemFiles {
     ghost use Rattle.std.specs.Prelude.{ℕ};
-    ghost use Rattle.spu_io.specs.MemFiles.{held_names, call_count, fault_count, last_fault, failing_calls};
+    ghost use Rattle.spu_io.specs.MemFiles.{held_names, call_count, next_call, fault_count, last_fault, failing_calls};
     ghost use Rattle.spu_io.specs.NameTable.{pointed_to};
 
     /// Files of which no name is held yet. `fails` lists the numbers of the calls that fail.
@@ -65,7 +67,7 @@ impl MemFiles {
     // Counts a call, and tells whether it is one that fails.
     fn begin(&mut self) -> bool
         ensures failing { IsTrue result ↔ Contains self.new.fails self.new.calls }
-        ensures calls { self.new.calls ≡ min (self.old.calls + 1) 18446744073709551615 }
+        ensures calls { self.new.calls ≡ next_call self.old.calls }
         ensures fails { self.new.fails ≡ self.old.fails }
         ensures names { self.new.names ≡ self.old.names }
         ensures log { self.new.log ≡ self.old.log }
@@ -76,7 +78,7 @@ impl MemFiles {
 }
 
 impl Files for MemFiles {
-    ghost use Rattle.spu_io.specs.MemFiles.{held_names, fault_count, last_fault};
+    ghost use Rattle.spu_io.specs.MemFiles.{held_names, call_count, next_call, fault_count, last_fault, failing_calls};
 
     ghost held = { λ files. Some (held_names files) };
 
@@ -84,7 +86,21 @@ impl Files for MemFiles {
 
     ghost last = { last_fault };
 
-    fn read(&mut self, alloc: Global, name: &str) -> Result<Bytes, FileFault> {
+    /// As `Files::read`. The answer is Failed only at a listed call and for a name that holds nothing,
+    /// and Ok at neither.
+    fn read(&mut self, alloc: Global, name: &str) -> Result<Bytes, FileFault>
+        ensures bytes { IfOk result (λ bytes. Cut (held_names self.old name.now) bytes) }
+        ensures held { held_names self.new ≡ held_names self.old }
+        ensures count { fault_count self.old ≤ fault_count self.new }
+        ensures counted { Counted result (Read name.now) (fault_count self.old) (fault_count self.new) (last_fault self.old) (last_fault self.new) }
+
+        ensures calls { call_count self.new ≡ next_call (call_count self.old) }
+        ensures fails { failing_calls self.new ≡ failing_calls self.old }
+        ensures listed { Contains (failing_calls self.old) (call_count self.new) → IsErr result }
+        ensures missing { held_names self.old name.now ≡ None → IsErr result }
+        ensures failed { IsErrOf result file.Failed →
+            Contains (failing_calls self.old) (call_count self.new) ⊎ (held_names self.old name.now ≡ None) }
+    {
         let fails = self.begin();
         let kept = copy_of(self.names.alloc(), name)?;
         if fails {
@@ -100,7 +116,19 @@ impl Files for MemFiles {
         }
     }
 
-    fn write(&mut self, name: &str, bytes: &[u8]) -> Result<(), FileFault> {
+    /// As `Files::write`. The answer is Failed only at a listed call, and Ok only at another. A write
+    /// that fails changes nothing.
+    fn write(&mut self, name: &str, bytes: &[u8]) -> Result<(), FileFault>
+        ensures written { Written result (Some (held_names self.old)) (Some (held_names self.new)) name.now bytes.now }
+        ensures unchanged { OnErr result (held_names self.new ≡ held_names self.old) }
+        ensures count { fault_count self.old ≤ fault_count self.new }
+        ensures counted { Counted result (Write name.now) (fault_count self.old) (fault_count self.new) (last_fault self.old) (last_fault self.new) }
+
+        ensures calls { call_count self.new ≡ next_call (call_count self.old) }
+        ensures fails { failing_calls self.new ≡ failing_calls self.old }
+        ensures listed { Contains (failing_calls self.old) (call_count self.new) → IsErr result }
+        ensures failed { IsErrOf result file.Failed → Contains (failing_calls self.old) (call_count self.new) }
+    {
         let fails = self.begin();
         let kept = copy_of(self.names.alloc(), name)?;
         if fails {
@@ -148,19 +176,68 @@ impl MemSink {
 }
 
 impl Sink for MemSink {
-    ghost use Rattle.spu_io.specs.MemSink.{sunk_bytes, sink_faults};
+    ghost use Rattle.spu_io.specs.MemSink.{sunk_bytes, put_count, sink_faults, failing_puts};
+    ghost use Rattle.spu_io.specs.MemFiles.{next_call};
 
     ghost written = { λ sink. Some (sunk_bytes sink) };
 
     ghost faults = { sink_faults };
 
-    fn put(&mut self, bytes: &[u8]) -> Result<(), SinkFault> {
+    /// As `Sink::put`. The answer is Failed only at a listed put, and Ok only at another. A put that
+    /// isn't Ok puts nothing.
+    fn put(&mut self, bytes: &[u8]) -> Result<(), SinkFault>
+        ensures gained { OnOk result (sunk_bytes self.new ≡ sunk_bytes self.old ++ bytes.now) }
+        ensures unchanged { OnErr result (sunk_bytes self.new ≡ sunk_bytes self.old) }
+        ensures count { sink_faults self.old ≤ sink_faults self.new }
+        ensures counted { PutCounted result (sink_faults self.old) (sink_faults self.new) }
+
+        ensures calls { put_count self.new ≡ next_call (put_count self.old) }
+        ensures fails { failing_puts self.new ≡ failing_puts self.old }
+        ensures listed { Contains (failing_puts self.old) (put_count self.new) → IsErr result }
+        ensures failed { IsErrOf result sink.Failed → Contains (failing_puts self.old) (put_count self.new) }
+    {
         self.calls = self.calls.saturating_add(1);
         if self.fails.as_slice().contains(&self.calls) {
             self.faults = self.faults.saturating_add(1);
             return Err(SinkFault::Failed);
         }
         self.written.extend(bytes)?;
+        Ok(())
+    }
+}
+
+#[cfg(test)]
+mod tests {
+    use super::*;
+    use std::test::Fail;
+
+    #[test]
+    fn listed_calls_fail(rt: HostRuntime) -> Result<(), Fail> {
+        let mut fails = Seq::new(rt.alloc());
+        assert_eq!(rt; fails.push(2u64), Ok(()));
+        let mut files = MemFiles::new(rt.alloc(), fails);
+        assert_eq!(rt; files.hold("in", b"abc"), Ok(()));
+        assert_eq!(rt; files.write("out", b"first"), Ok(()));
+        assert_eq!(rt; files.write("out", b"second"), Err(FileFault::Failed));
+        assert_eq!(rt; files.get("out"), Some(b"first".as_slice()));
+        assert_eq!(rt; files.write("out", b"third"), Ok(()));
+        assert_eq!(rt; files.get("out"), Some(b"third".as_slice()));
+        let read = files.read(rt.alloc(), "in").ok().ok_or("not read")?;
+        assert_eq!(rt; read.as_slice(), b"abc".as_slice());
+        assert!(rt; files.read(rt.alloc(), "missing").is_err());
+        assert_eq!(rt; files.get("missing"), None);
+        Ok(())
+    }
+
+    #[test]
+    fn listed_puts_fail(rt: HostRuntime) -> Result<(), Fail> {
+        let mut fails = Seq::new(rt.alloc());
+        assert_eq!(rt; fails.push(2u64), Ok(()));
+        let mut sink = MemSink::new(rt.alloc(), fails);
+        assert_eq!(rt; sink.put(b"a"), Ok(()));
+        assert_eq!(rt; sink.put(b"b"), Err(SinkFault::Failed));
+        assert_eq!(rt; sink.put(b"c"), Ok(()));
+        assert_eq!(rt; sink.as_slice(), b"ac".as_slice());
         Ok(())
     }
 }

@@ -1,9 +1,7 @@
 //! Files and a sink, of which a program knows only what these clauses say.
 
-ghost use Rattle.std.specs.Prelude.{◌≡◌, ℕ, ◌≤◌, List, Option, IfOk, OnOk, OnErr, IsErrOf};
-ghost use Rattle.spu_io.specs.Outside.{Names, Last, Read, Write, Rose, ReadOf, Wrote, Spoiled, Gained, GainedPrefix};
-ghost use Rattle.spu_io.specs.declared.faults.FileFault.TheVariants as file;
-ghost use Rattle.spu_io.specs.declared.faults.SinkFault.TheVariants as sink;
+ghost use Rattle.std.specs.Prelude.{◌≡◌, ℕ, ◌≤◌, List, Option, IfOk, OnOk, OnErr};
+ghost use Rattle.spu_io.specs.Outside.{Names, Last, Read, Write, ReadOf, Written, Counted, PutCounted, Gained, GainedPrefix};
 
 use crate::faults::{FileFault, SinkFault};
 use spu_word::Bytes;
@@ -26,26 +24,14 @@ pub trait Files {
         ensures bytes { IfOk result (λ bytes. ReadOf (held self.old) name.now bytes) }
         ensures held { held self.new ≡ held self.old }
         ensures count { faults self.old ≤ faults self.new }
-        ensures rose { IsErrOf result file.Failed → Rose (faults self.old) (faults self.new) }
-        ensures named { IsErrOf result file.Failed → last self.new ≡ Read name.now }
-        ensures ok_count { OnOk result (faults self.new ≡ faults self.old) }
-        ensures ok_last { OnOk result (last self.new ≡ last self.old) }
-        ensures memory_count { IsErrOf result file.OutOfMemory → faults self.new ≡ faults self.old }
-        ensures memory_last { IsErrOf result file.OutOfMemory → last self.new ≡ last self.old };
+        ensures counted { Counted result (Read name.now) (faults self.old) (faults self.new) (last self.old) (last self.new) };
 
     /// Makes a name hold exactly these bytes. Where that failed nothing is known of the name, and
     /// where memory ran out nothing changed.
     fn write(&mut self, name: &str, bytes: &[u8]) -> Result<(), FileFault>
-        ensures wrote { OnOk result (Wrote (held self.old) (held self.new) name.now bytes.now) }
-        ensures spoiled { IsErrOf result file.Failed → Spoiled (held self.old) (held self.new) name.now }
-        ensures unchanged { IsErrOf result file.OutOfMemory → held self.new ≡ held self.old }
+        ensures written { Written result (held self.old) (held self.new) name.now bytes.now }
         ensures count { faults self.old ≤ faults self.new }
-        ensures rose { IsErrOf result file.Failed → Rose (faults self.old) (faults self.new) }
-        ensures named { IsErrOf result file.Failed → last self.new ≡ Write name.now }
-        ensures ok_count { OnOk result (faults self.new ≡ faults self.old) }
-        ensures ok_last { OnOk result (last self.new ≡ last self.old) }
-        ensures memory_count { IsErrOf result file.OutOfMemory → faults self.new ≡ faults self.old }
-        ensures memory_last { IsErrOf result file.OutOfMemory → last self.new ≡ last self.old };
+        ensures counted { Counted result (Write name.now) (faults self.old) (faults self.new) (last self.old) (last self.new) };
 }
 
 /// Where texts are put.
@@ -61,7 +47,5 @@ pub trait Sink {
         ensures gained { OnOk result (Gained (written self.old) (written self.new) bytes.now) }
         ensures prefix { OnErr result (GainedPrefix (written self.old) (written self.new) bytes.now) }
         ensures count { faults self.old ≤ faults self.new }
-        ensures rose { IsErrOf result sink.Failed → Rose (faults self.old) (faults self.new) }
-        ensures ok_count { OnOk result (faults self.new ≡ faults self.old) }
-        ensures memory_count { IsErrOf result sink.OutOfMemory → faults self.new ≡ faults self.old };
+        ensures counted { PutCounted result (faults self.old) (faults self.new) };
 }

@@ -1,7 +1,8 @@
 //! Files and a sink in memory that never fail, so that want of memory is all that can go wrong.
 
-ghost use Rattle.std.specs.Prelude.{◌≡◌, List, [], None, Some, OnOk, OnErr};
-ghost use Rattle.spu_io.specs.Outside.{Nothing, Replaced};
+ghost use Rattle.std.specs.Prelude.{◌≡◌, List, [], None, Some, IfOk, IfErr, OnOk, OnErr};
+ghost use Rattle.spu_io.specs.Outside.{Nothing, Cut, Replaced};
+ghost use Rattle.spu_io.specs.declared.faults.FileFault.TheVariants as file;
 
 use crate::fault_log::copy_of;
 use crate::faults::{FileFault, SinkFault};
@@ -56,7 +57,13 @@ impl Files for QuietFiles {
 
     ghost last = { λ _. Nothing };
 
-    fn read(&mut self, alloc: Global, name: &str) -> Result<Bytes, FileFault> {
+    /// As `Files::read`, and a name that holds nothing is read as no bytes.
+    fn read(&mut self, alloc: Global, name: &str) -> Result<Bytes, FileFault>
+        ensures bytes { IfOk result (λ bytes. Cut (kept_names self.old name.now) bytes) }
+        ensures missing { IfOk result (λ bytes. kept_names self.old name.now ≡ None → bytes ≡ []) }
+        ensures held { kept_names self.new ≡ kept_names self.old }
+        ensures memory { IfErr result (λ e. e ≡ file.OutOfMemory) }
+    {
         match self.names.get(name) {
             Some(bytes) => Ok(Bytes::copied(alloc, first_bytes(bytes))?),
             None => Ok(Bytes::new(alloc)),
@@ -104,6 +111,29 @@ impl Sink for QuietSink {
 
     fn put(&mut self, bytes: &[u8]) -> Result<(), SinkFault> {
         self.written.extend(bytes)?;
+        Ok(())
+    }
+}
+
+#[cfg(test)]
+mod tests {
+    use super::*;
+    use std::test::Fail;
+
+    #[test]
+    fn what_is_written_is_read(rt: HostRuntime) -> Result<(), Fail> {
+        let mut files = QuietFiles::new(rt.alloc());
+        assert_eq!(rt; files.hold("a", b"12"), Ok(()));
+        assert_eq!(rt; files.write("b", b"345"), Ok(()));
+        assert_eq!(rt; files.get("a"), Some(b"12".as_slice()));
+        let read = files.read(rt.alloc(), "b").ok().ok_or("not read")?;
+        assert_eq!(rt; read.as_slice(), b"345".as_slice());
+        let missing = files.read(rt.alloc(), "c").ok().ok_or("not read")?;
+        assert!(rt; missing.is_empty());
+        let mut sink = QuietSink::new(rt.alloc());
+        assert_eq!(rt; sink.put(b"one "), Ok(()));
+        assert_eq!(rt; sink.put(b"two"), Ok(()));
+        assert_eq!(rt; sink.as_slice(), b"one two".as_slice());
         Ok(())
     }
 }
