@@ -1,5 +1,5 @@
 -- The count of the calls that failed, and the last of them.
-use Rattle.std.specs.Prelude.{ℕ, List, string_bytes}
+use Rattle.std.specs.Prelude.{ℕ, string_bytes}
 use Rattle.spu_io.specs.Outside.{Last, Nothing, Read, Write}
 use Rattle.spu_io.specs.declared.fault_log.LastFault.{LastFault}
 use Rattle.spu_io.specs.declared.fault_log.LastFault.TheVariants as last

@@ -219,13 +219,15 @@ mod tests {
         assert_eq!(rt; files.hold("in", b"abc"), Ok(()));
         assert_eq!(rt; files.write("out", b"first"), Ok(()));
         assert_eq!(rt; files.write("out", b"second"), Err(FileFault::Failed));
-        assert_eq!(rt; files.get("out"), Some(b"first".as_slice()));
+        let held = files.get("out").ok_or("nothing held")?;
+        assert_eq!(rt; held, b"first".as_slice());
         assert_eq!(rt; files.write("out", b"third"), Ok(()));
-        assert_eq!(rt; files.get("out"), Some(b"third".as_slice()));
+        let held = files.get("out").ok_or("nothing held")?;
+        assert_eq!(rt; held, b"third".as_slice());
         let read = files.read(rt.alloc(), "in").ok().ok_or("not read")?;
         assert_eq!(rt; read.as_slice(), b"abc".as_slice());
         assert!(rt; files.read(rt.alloc(), "missing").is_err());
-        assert_eq!(rt; files.get("missing"), None);
+        assert!(rt; files.get("missing").is_none());
         Ok(())
     }
 

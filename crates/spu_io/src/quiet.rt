@@ -125,7 +125,8 @@ mod tests {
         let mut files = QuietFiles::new(rt.alloc());
         assert_eq!(rt; files.hold("a", b"12"), Ok(()));
         assert_eq!(rt; files.write("b", b"345"), Ok(()));
-        assert_eq!(rt; files.get("a"), Some(b"12".as_slice()));
+        let held = files.get("a").ok_or("nothing held")?;
+        assert_eq!(rt; held, b"12".as_slice());
         let read = files.read(rt.alloc(), "b").ok().ok_or("not read")?;
         assert_eq!(rt; read.as_slice(), b"345".as_slice());
         let missing = files.read(rt.alloc(), "c").ok().ok_or("not read")?;
