@@ -1,3 +1,4 @@
 pub mod Agreement
 pub mod Segments
 pub mod Hops
+pub mod FirstImages

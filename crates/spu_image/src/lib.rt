@@ -1,7 +1,8 @@
 //! From objects to an executable image.
 #![tactic(auto)]
 
-pub mod link;
-pub mod options;
+pub mod linking;
+pub mod outcome;
 
-pub use options::LinkOptions;
+pub use linking::link;
+pub use outcome::{LinkFault, LinkOptions, Linked};
