@@ -5,7 +5,7 @@ use Rattle.std.specs.Int.{w128, rotate_left, from_be_bytes, to_be_bytes, byte_at
 use Rattle.spu_word.specs.Bytes.{word_of, quad_of}
 use Rattle.spu_isa.specs.declared.operation.Op.{Op}
 use Rattle.spu_isa.specs.declared.operation.Op.TheVariants as op
-use Rattle.spu_exec.specs.Lanes.{sixteen, lane_of, lanes, ones_where}
+use Rattle.spu_exec.specs.Lanes.{sixteen, lane_of}
 
 -- a quad as a number, and the quad of a number modulo 2 ^ 128
 abbrev pub number_of : List ℕ → ℕ
@@ -34,9 +34,9 @@ chosen a b control =
 abbrev pub gathered : ℕ → List ℕ → ℕ
 gathered w a = sum_through (λ j. lane_of w a j % 2 * 2 ^ (16 / w - 1 - j)) (16 / w - 1)
 
--- each lane of w bytes all ones or all zeros by a bit of n, the leftmost by the highest of as many bits as there are lanes
+-- each lane of w bytes all ones or all zeros by a bit of n, the rightmost by the lowest: byte k is of lane (15 - k) / w from the right
 abbrev pub spread : ℕ → ℕ → List ℕ
-spread w n = lanes w (λ j. ones_where w (n / 2 ^ (16 / w - 1 - j) % 2 == 1))
+spread w n = sixteen (λ k. if n / 2 ^ ((15 - k) / w) % 2 == 1 then 255 else 0)
 
 -- the control of `shufb` that puts w bytes, from byte `first` of ra on, at the place that the address n names, and keeps rb elsewhere
 abbrev pub inserting : ℕ → ℕ → ℕ → List ℕ

@@ -1,0 +1,9 @@
+use Rattle.std.proofs.Common.{◌≡◌, ℕ, ◌+◌, ◌-◌, ◌*◌, ◌/◌, ◌%◌, ◌^◌, ◌<◌, ◌++◌, ◌==◌, nat_lt, get_or, arith}
+use Rattle.std.specs.Prelude.{bit_or, if◌then◌else◌}
+use Rattle.spu_exec.specs.Lanes.{byte_value}
+use Rattle.spu_exec.proofs.Joins.{filled}
+use Rattle.spu_exec.proofs.bytes.in_bytes.Goals as goal
+
+pub returns : goal.returns
+returns c =
+    filled (λ k. byte_value c.args.op c.args.i (get_or c.args.a.now.0 k 0) (get_or c.args.b.now.0 k 0) (get_or c.args.c.now.0 k 0) % 2 ^ 8) c.loop-k.out c.loop-k.invariant.len (λ k below. c.loop-k.invariant.same k (omega arith))

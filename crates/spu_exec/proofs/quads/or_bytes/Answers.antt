@@ -1,0 +1,8 @@
+use Rattle.std.proofs.Common.{◌≡◌, ℕ, ◌+◌, ◌-◌, ◌*◌, ◌/◌, ◌%◌, ◌^◌, ◌<◌, ◌++◌, ◌==◌, nat_lt, get_or, arith}
+use Rattle.std.specs.Prelude.{bit_or, if◌then◌else◌}
+use Rattle.spu_exec.proofs.Joins.{filled}
+use Rattle.spu_exec.proofs.quads.or_bytes.Goals as goal
+
+pub returns : goal.returns
+returns c =
+    filled (λ k. bit_or (get_or c.args.a.now.0 k 0) (get_or c.args.bytes (k % 4) 0)) c.loop-k.out c.loop-k.invariant.len (λ k below. c.loop-k.invariant.same k (omega arith))
