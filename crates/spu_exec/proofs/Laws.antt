@@ -1,5 +1,5 @@
 -- The lane law: a byte of a result depends on the bytes that `reads` names alone.
-use Rattle.std.proofs.Common.{◌≡◌, ℕ, zero, suc, ◌+◌, ◌-◌, ◌*◌, ◌/◌, ◌%◌, ◌^◌, ◌<◌, ◌≤◌, ◌==◌, Bool, true, false, ◌&&◌, cond, nat_lt, List, [], ◌∷◌, ℤ, refl, ap, ◌∙◌, sym, subst, arith, get_or, eq-eqb, bit_or}
+use Rattle.std.proofs.Common.{◌≡◌, ℕ, zero, suc, ◌+◌, ◌-◌, ◌*◌, ◌/◌, ◌%◌, ◌^◌, ◌<◌, ◌≤◌, ◌==◌, Bool, true, false, ◌&&◌, nat_lt, List, ◌∷◌, refl, ap, ◌∙◌, sym, arith, eq-eqb, bit_or}
 use Rattle.std.specs.Prelude.{slice_index, if◌then◌else◌}
 use Rattle.std.specs.Int.{w32, w64, w128, cast_unsigned, cast_signed, byte_at, byte_worth, sum_through, rotate_left}
 use Rattle.std.proofs.lemmas.Bool.Decides.{nat_tests}
@@ -13,7 +13,7 @@ use Rattle.spu_exec.specs.declared.shape.Shape.TheVariants.{Bytes, Halfwords, Wo
 use Rattle.spu_exec.specs.Lanes.{sixteen, lane_of, lanes, immediate, word_value, halfword_value, byte_value}
 use Rattle.spu_exec.specs.Quads.{number_of, quad_of_number, turned, bytes_left, bytes_right, chosen, spread, inserting, gathered, whole_value, or_lanes}
 use Rattle.spu_exec.specs.Values.{shape_of, value_of, value}
-use Rattle.spu_exec.specs.Reads.{Source, FromRa, FromRb, FromRc, FromRt, Extent, SameLane, FirstWord, All, names, extent, covers, reads, Agree}
+use Rattle.spu_exec.specs.Reads.{Source, FromRa, FromRb, FromRc, FromRt, SameLane, names, extent, covers, Agree}
 
 -- a byte of a quad
 pub slice_sixteen : (f : ℕ → ℕ) (k : ℕ) → k < 16 → slice_index (sixteen f) k ≡ f k
@@ -228,14 +228,14 @@ whole_law op.Gbb i a b c t a' b' c' t' k lt ea eb ec et = of_quad (λ q. quad_of
 whole_law op.Fsm i a b c t a' b' c' t' k lt ea eb ec et = of_word (spread 4) k _ _ (first_word_same a a' ea)
 whole_law op.Fsmh i a b c t a' b' c' t' k lt ea eb ec et = of_word (spread 2) k _ _ (first_word_same a a' ea)
 whole_law op.Fsmb i a b c t a' b' c' t' k lt ea eb ec et = of_word (spread 1) k _ _ (first_word_same a a' ea)
-whole_law op.Cbd i a b c t a' b' c' t' k lt ea eb ec et = of_word (λ n. inserting 1 3 (n + i)) k _ _ (first_word_same a a' ea)
-whole_law op.Chd i a b c t a' b' c' t' k lt ea eb ec et = of_word (λ n. inserting 2 2 (n + i)) k _ _ (first_word_same a a' ea)
-whole_law op.Cwd i a b c t a' b' c' t' k lt ea eb ec et = of_word (λ n. inserting 4 0 (n + i)) k _ _ (first_word_same a a' ea)
-whole_law op.Cdd i a b c t a' b' c' t' k lt ea eb ec et = of_word (λ n. inserting 8 0 (n + i)) k _ _ (first_word_same a a' ea)
-whole_law op.Cbx i a b c t a' b' c' t' k lt ea eb ec et = of_words (λ m n. inserting 1 3 (m + n)) k _ _ _ _ (first_word_same a a' ea) (first_word_same b b' eb)
-whole_law op.Chx i a b c t a' b' c' t' k lt ea eb ec et = of_words (λ m n. inserting 2 2 (m + n)) k _ _ _ _ (first_word_same a a' ea) (first_word_same b b' eb)
-whole_law op.Cwx i a b c t a' b' c' t' k lt ea eb ec et = of_words (λ m n. inserting 4 0 (m + n)) k _ _ _ _ (first_word_same a a' ea) (first_word_same b b' eb)
-whole_law op.Cdx i a b c t a' b' c' t' k lt ea eb ec et = of_words (λ m n. inserting 8 0 (m + n)) k _ _ _ _ (first_word_same a a' ea) (first_word_same b b' eb)
+whole_law op.Cbd i a b c t a' b' c' t' k lt ea eb ec et = of_word (λ n. inserting 1 3 ((n + i) % 16)) k _ _ (first_word_same a a' ea)
+whole_law op.Chd i a b c t a' b' c' t' k lt ea eb ec et = of_word (λ n. inserting 2 2 ((n + i) % 16)) k _ _ (first_word_same a a' ea)
+whole_law op.Cwd i a b c t a' b' c' t' k lt ea eb ec et = of_word (λ n. inserting 4 0 ((n + i) % 16)) k _ _ (first_word_same a a' ea)
+whole_law op.Cdd i a b c t a' b' c' t' k lt ea eb ec et = of_word (λ n. inserting 8 0 ((n + i) % 16)) k _ _ (first_word_same a a' ea)
+whole_law op.Cbx i a b c t a' b' c' t' k lt ea eb ec et = of_words (λ m n. inserting 1 3 ((m + n) % 16)) k _ _ _ _ (first_word_same a a' ea) (first_word_same b b' eb)
+whole_law op.Chx i a b c t a' b' c' t' k lt ea eb ec et = of_words (λ m n. inserting 2 2 ((m + n) % 16)) k _ _ _ _ (first_word_same a a' ea) (first_word_same b b' eb)
+whole_law op.Cwx i a b c t a' b' c' t' k lt ea eb ec et = of_words (λ m n. inserting 4 0 ((m + n) % 16)) k _ _ _ _ (first_word_same a a' ea) (first_word_same b b' eb)
+whole_law op.Cdx i a b c t a' b' c' t' k lt ea eb ec et = of_words (λ m n. inserting 8 0 ((m + n) % 16)) k _ _ _ _ (first_word_same a a' ea) (first_word_same b b' eb)
 whole_law _ i a b c t a' b' c' t' k lt ea eb ec et = refl
 
 -- the law of scalar formulas

@@ -7,7 +7,7 @@ ghost use Rattle.spu_exec.specs.Values.{value};
 
 use crate::bytes::in_bytes;
 use crate::halfwords::{in_doublewords, in_halfwords};
-use crate::places::immediate;
+use crate::places::{byte_immediate, halfword_immediate, immediate};
 use crate::quads::whole;
 use crate::shape::{Shape, shape_of};
 use crate::words::in_words;
@@ -22,8 +22,8 @@ pub fn apply(i: &Inst, a: &Quad, b: &Quad, c: &Quad, t: &Quad) -> Quad
     let n = immediate(i);
     match shape_of(i.op) {
         Shape::Words => in_words(i.op, n, a, b, c, t),
-        Shape::Halfwords => in_halfwords(i.op, (n & 0xffff) as u16, a, b),
-        Shape::Bytes => in_bytes(i.op, (n & 0xff) as u8, a, b, c),
+        Shape::Halfwords => in_halfwords(i.op, halfword_immediate(i), a, b),
+        Shape::Bytes => in_bytes(i.op, byte_immediate(i), a, b, c),
         Shape::Doublewords => in_doublewords(a),
         Shape::Whole => whole(i.op, n, a, b, c, t),
     }

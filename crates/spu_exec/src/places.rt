@@ -16,6 +16,20 @@ pub fn immediate(i: &Inst) -> u32
     i.imm.cast_unsigned()
 }
 
+/// The immediate of an instruction as a halfword.
+pub fn halfword_immediate(i: &Inst) -> u16
+    ensures { result ≡ immediate_of 2 i.now.imm }
+{
+    (immediate(i) & 0xffff) as u16
+}
+
+/// The immediate of an instruction as a byte.
+pub fn byte_immediate(i: &Inst) -> u8
+    ensures { result ≡ immediate_of 1 i.now.imm }
+{
+    (immediate(i) & 0xff) as u8
+}
+
 /// Whether a halt instruction halts; a and b are the quads of ra and rb.
 pub fn halts(i: &Inst, a: &Quad, b: &Quad) -> bool
     requires { (row_of i.now.op).kind ≡ HaltTest }
