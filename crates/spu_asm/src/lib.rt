@@ -1,0 +1,5 @@
+//! Objects from assembly texts.
+#![tactic(auto)]
+
+pub mod numerals;
+pub mod parts;
