@@ -1,5 +1,6 @@
 -- A number and its decimal text.
 use Rattle.std.proofs.Common.{◌≡◌, ◌≢◌, ℕ, zero, suc, ◌+◌, ◌-◌, ◌<◌, ◌≤◌, ◌^◌, Bool, true, false, List, [], ◌∷◌, ◌++◌, length, get_or, Result, Ok, Err, refl, sym, ap, ◌∙◌, arith, rules, take, drop, Option, Some, None, IfSome, ℤ, pos, negsuc, ◌≤ℤ◌}
+use borrow.Author.Differences.{ints}
 use Rattle.std.specs.Result.{result_ok}
 use Rattle.std.proofs.lemmas.List.{take_all, length-drop}
 use Rattle.std.specs.Fmt.{decimal, signed_decimal}

@@ -2,4 +2,5 @@
 #![tactic(auto)]
 
 pub mod numerals;
+pub mod operands;
 pub mod parts;

@@ -1,3 +1,4 @@
 pub mod Spelling
 pub mod Validity
 pub mod Views
+pub mod First
