@@ -47,3 +47,12 @@ same_parts s (x ∷ a) b [] d e h k = absurd (h.0 (cc))
 same_parts s (x ∷ a) b (y ∷ c) d e h k =
     let rest = same_parts s a b c d (cc) h.1 k.1 in
     (cc (rest.0), rest.1)
+
+pub lacks_by_index : (s : ℕ) (xs : List ℕ) → ((k : ℕ) → k < length xs → get_or xs k 0 ≢ s) → Lacks s xs
+lacks_by_index s [] h = tt
+lacks_by_index s (x ∷ xs) h = (h 0 (omega arith), lacks_by_index s xs (λ k lt. h (suc k) (omega arith)))
+
+-- a text with a separator doesn't lack it
+pub lacks_no_part : (s : ℕ) (a b : List ℕ) → Lacks s (a ++ s ∷ b) → ⊥
+lacks_no_part s [] b h = h.0 refl
+lacks_no_part s (x ∷ a) b h = lacks_no_part s a b h.1

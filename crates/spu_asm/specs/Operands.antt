@@ -8,7 +8,7 @@ use Rattle.spu_asm.specs.Lines.{IsSayable, operands, three_registers}
 pub record Completes (op : Op) (text : List ℕ) (x : Inst) : Type 0 where
   pub sayable : IsSayable x
   pub same : x.op ≡ op
-  pub text : operands op x ≡ 32 ∷ text
+  pub printed : operands op x ≡ 32 ∷ text
 
 -- the same for three registers, the first of them not $1
 pub record CompletesThree (op : Op) (text : List ℕ) (x : Inst) : Type 0 where
@@ -19,4 +19,4 @@ pub record CompletesThree (op : Op) (text : List ℕ) (x : Inst) : Type 0 where
   pub second : x.rb < 128
   pub third : x.rc ≡ 0
   pub number : x.imm ≡ pos 0
-  pub text : three_registers x ≡ 32 ∷ text
+  pub printed : three_registers x ≡ 32 ∷ text
