@@ -1,3 +1,4 @@
 pub mod PartsLemmas
 pub mod NumeralLemmas
 pub mod OperandLemmas
+pub mod LineLemmas
