@@ -2,3 +2,5 @@ pub mod PartsLemmas
 pub mod NumeralLemmas
 pub mod OperandLemmas
 pub mod LineLemmas
+pub mod FormLemmas
+pub mod ObjectLemmas

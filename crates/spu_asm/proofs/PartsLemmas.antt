@@ -56,3 +56,10 @@ lacks_by_index s (x ∷ xs) h = (h 0 (omega arith), lacks_by_index s xs (λ k lt
 pub lacks_no_part : (s : ℕ) (a b : List ℕ) → Lacks s (a ++ s ∷ b) → ⊥
 lacks_no_part s [] b h = h.0 refl
 lacks_no_part s (x ∷ a) b h = lacks_no_part s a b h.1
+
+pub no_parts : (s : ℕ) (text front rest : List ℕ) → Lacks s text → Parts s text front rest → ⊥
+no_parts s text front rest l p = lacks_no_part s front rest (subst (Lacks s) p.whole l)
+
+-- a text has one front
+pub one_front : (s : ℕ) (text a b c d : List ℕ) → Parts s text a b → Parts s text c d → (a ≡ c) × (b ≡ d)
+one_front s text a b c d p q = same_parts s a b c d (sym p.whole ∙ q.whole) p.first q.first

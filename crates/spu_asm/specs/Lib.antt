@@ -2,3 +2,5 @@ pub mod Parts
 pub mod Numerals
 pub mod Lines
 pub mod Operands
+pub mod Forms
+pub mod Answers

@@ -5,7 +5,9 @@ ghost use Rattle.spu_isa.specs.declared.instruction.Inst.{Inst};
 ghost use Rattle.spu_asm.specs.Lines.{Says};
 ghost use Rattle.spu_asm.specs.Parts.{Lacks};
 
-use crate::operands::{add_immediate, bare, branch_to_link, load_immediate, stop, three_registers, write_mail};
+use crate::operands::{
+    add_immediate, bare, branch_to_link, load_immediate, stop, three_registers, write_mail,
+};
 use crate::parts::cut;
 use spu_isa::{Inst, Op, op_named};
 

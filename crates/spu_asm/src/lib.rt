@@ -1,7 +1,12 @@
 //! Objects from assembly texts.
 #![tactic(auto)]
 
-pub mod instructions;
-pub mod numerals;
-pub mod operands;
-pub mod parts;
+mod assembler;
+mod faults;
+mod instructions;
+mod numerals;
+mod operands;
+mod parts;
+
+pub use assembler::assemble;
+pub use faults::{AsmFault, AsmKind};

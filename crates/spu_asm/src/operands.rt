@@ -54,7 +54,14 @@ pub fn load_immediate(text: &[u8]) -> Option<Inst>
 {
     let (rt, value) = target_and(text)?;
     let imm = i32::from(integer(value)?);
-    Some(Inst { op: Op::Il, rt, ra: 0, rb: 0, rc: 0, imm })
+    Some(Inst {
+        op: Op::Il,
+        rt,
+        ra: 0,
+        rb: 0,
+        rc: 0,
+        imm,
+    })
 }
 
 /// `ai` with its operands.
@@ -65,7 +72,14 @@ pub fn add_immediate(text: &[u8]) -> Option<Inst>
     let (rt, rest) = target_and(text)?;
     let (ra, value) = register_and(rest)?;
     let imm = ten_bits(integer(value)?)?;
-    Some(Inst { op: Op::Ai, rt, ra, rb: 0, rc: 0, imm })
+    Some(Inst {
+        op: Op::Ai,
+        rt,
+        ra,
+        rb: 0,
+        rc: 0,
+        imm,
+    })
 }
 
 /// A number of ten bits.
@@ -73,7 +87,11 @@ fn ten_bits(n: i16) -> Option<i32>
     ensures some { IfSome result (λ m. (negsuc 511 ≤ℤ m) × (m ≤ℤ pos 511) × (m ≡ n)) }
     ensures only { negsuc 511 ≤ℤ n → n ≤ℤ pos 511 → result ≡ Some n }
 {
-    if -512 <= n && n <= 511 { Some(i32::from(n)) } else { None }
+    if -512 <= n && n <= 511 {
+        Some(i32::from(n))
+    } else {
+        None
+    }
 }
 
 /// The instruction of three registers that the text makes of an operation.
@@ -84,7 +102,14 @@ pub fn three_registers(op: Op, text: &[u8]) -> Option<Inst>
     let (rt, rest) = target_and(text)?;
     let (ra, rest) = register_and(rest)?;
     let rb = register(rest)?;
-    Some(Inst { op, rt, ra, rb, rc: 0, imm: 0 })
+    Some(Inst {
+        op,
+        rt,
+        ra,
+        rb,
+        rc: 0,
+        imm: 0,
+    })
 }
 
 /// `wrch` of channel 28, the outbound mailbox.
@@ -120,7 +145,14 @@ pub fn branch_to_link(text: &[u8]) -> Option<Inst>
 pub fn bare(op: Op) -> Inst
     ensures { result ≡ record { op = op; rt = 0; ra = 0; rb = 0; rc = 0; imm = pos 0 } }
 {
-    Inst { op, rt: 0, ra: 0, rb: 0, rc: 0, imm: 0 }
+    Inst {
+        op,
+        rt: 0,
+        ra: 0,
+        rb: 0,
+        rc: 0,
+        imm: 0,
+    }
 }
 
 /// `stop` with its code.
@@ -129,7 +161,10 @@ pub fn stop(text: &[u8]) -> Option<Inst>
     ensures only { (x : Inst) → Completes ops.Stop text.now x → result ≡ Some x }
 {
     let imm = stop_code(number(text)?)?;
-    Some(Inst { imm, ..bare(Op::Stop) })
+    Some(Inst {
+        imm,
+        ..bare(Op::Stop)
+    })
 }
 
 /// A number of 14 bits.
