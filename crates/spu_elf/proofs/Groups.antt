@@ -4,6 +4,9 @@ use Rattle.std.specs.List.{fold, take_while, prefix_len}
 use Rattle.std.proofs.lemmas.List.{at_drop_more, at_drop_all, length-append}
 use Rattle.spu_elf.specs.declared.objects.Section.{Section}
 use Rattle.spu_elf.specs.declared.objects.Reloc.{Reloc}
+use Rattle.spu_elf.specs.declared.lengths.Extent.{Extent}
+use Rattle.spu_elf.specs.Lengths.{group_grown}
+use Rattle.std.proofs.lemmas.List.Sums.{fold-append}
 use Rattle.spu_elf.specs.Spelling.{Draft, added, relocation_part, Group, groups, group_of, is_in}
 
 pub groups_from : (ss : List Section) (rs : List Reloc) (k : ℕ) (s : Section) → k < length ss → groups k (drop k ss) rs ≡ group_of k (get_or ss k s) (take_while (is_in k) rs) ++ groups (k + 1) (drop (k + 1) ss) (drop (prefix_len (is_in k) rs) rs)
@@ -48,3 +51,10 @@ count_none ss rs k s lt none =
 
 pub count_done : (ss : List Section) (rs : List Reloc) (k : ℕ) → length ss ≤ k → length (groups k (drop k ss) rs) ≡ 0
 count_done ss rs k le = ap length (groups_done ss rs k le)
+
+-- how long a file with the groups from section k on is
+pub extent_from : (e : Extent) (ss : List Section) (rs : List Reloc) (k : ℕ) (s : Section) → k < length ss → fold group_grown e (groups k (drop k ss) rs) ≡ fold group_grown (fold group_grown e (group_of k (get_or ss k s) (take_while (is_in k) rs))) (groups (k + 1) (drop (k + 1) ss) (drop (prefix_len (is_in k) rs) rs))
+extent_from e ss rs k s lt = ap (fold group_grown e) (groups_from ss rs k s lt) ∙ fold-append group_grown e (group_of k (get_or ss k s) (take_while (is_in k) rs)) (groups (k + 1) (drop (k + 1) ss) (drop (prefix_len (is_in k) rs) rs))
+
+pub extent_done : (e : Extent) (ss : List Section) (rs : List Reloc) (k : ℕ) → length ss ≤ k → fold group_grown e (groups k (drop k ss) rs) ≡ e
+extent_done e ss rs k le = ap (fold group_grown e) (groups_done ss rs k le)

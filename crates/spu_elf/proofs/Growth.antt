@@ -34,14 +34,16 @@ grows_parts front ps number symbols =
     let d : Draft = fold added (blank front) ps in
     omega (arith, length-replicate {A = ℕ} front 0, fold_grows (blank front) ps, tables_grow number symbols d)
 
-pub object_has_room : (g : Growing) (o : Object) → draft_of g ≡ object_draft o → 52 ≤ length g.file
+pub object_room : (o : Object) → 52 ≤ length (object_draft o).file
 unfolding blank
-object_has_room g o e =
+object_room o =
     let n : ℕ = symbols_number o in
     let d : Draft = fold added (blank 52) (map section_part o.sections) in
     let f : Draft = fold added d (map (relocation_part n) (groups_of o)) in
-    let room : 52 ≤ length (with_tables n o.symbols f).file = omega (arith, length-replicate {A = ℕ} 52 0, fold_grows (blank 52) (map section_part o.sections), fold_grows d (map (relocation_part n) (groups_of o)), tables_grow n o.symbols f) in
-    subst (λ (d : Draft). 52 ≤ length d.file) (sym e) room
+    omega (arith, length-replicate {A = ℕ} 52 0, fold_grows (blank 52) (map section_part o.sections), fold_grows d (map (relocation_part n) (groups_of o)), tables_grow n o.symbols f)
+
+pub object_has_room : (g : Growing) (o : Object) → draft_of g ≡ object_draft o → 52 ≤ length g.file
+object_has_room g o e = subst (λ (d : Draft). 52 ≤ length d.file) (sym e) (object_room o)
 
 -- a file has all bytes of its draft
 pub file_holds : (front : List ℕ) (d : Draft) → length d.file ≤ length (file_of front d)

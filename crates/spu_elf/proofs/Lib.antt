@@ -1,3 +1,7 @@
-pub mod Growth
+pub mod ExtentLemmas
+pub mod FirstFiles
+pub mod FirstImages
+pub mod FirstValid
 pub mod Groups
-pub mod Images
+pub mod Growth
+pub mod ImageFiles

@@ -48,7 +48,10 @@ impl SymbolTable {
         ensures { OnOk result (symbols_of self.new ≡ with_symbol (symbols_of self.old) s.now) }
     {
         let name = add_name(&mut self.strings, s.name.as_slice())?;
-        put_words(&mut self.entries, &[name, s.value as usize, s.size as usize])?;
+        put_words(
+            &mut self.entries,
+            &[name, s.value as usize, s.size as usize],
+        )?;
         let binding = if s.global { 16 } else { 0 };
         self.entries.push(binding + kind_number(s.kind))?;
         self.entries.push(0)?;
@@ -167,7 +170,12 @@ fn relocation_entries(alloc: Global, relocs: &[Reloc]) -> Result<Bytes, OutOfMem
 
 impl Growing {
     /// Adds the relocations of one section; `symbols` is the number of the symbol table.
-    pub fn add_group(&mut self, alloc: Global, symbols: usize, group: &Group) -> Result<(), OutOfMemory>
+    pub fn add_group(
+        &mut self,
+        alloc: Global,
+        symbols: usize,
+        group: &Group,
+    ) -> Result<(), OutOfMemory>
         requires { group.now.target < 2 ^ 32 }
         ensures { OnOk result (draft_of self.new ≡ spelling.added (draft_of self.old) (relocation_part symbols (record { target = group.now.target; name = group.now.name.now; relocs = group.now.relocs.now }))) }
     {

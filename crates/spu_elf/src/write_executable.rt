@@ -43,7 +43,7 @@ fn segment_part<'a>(name: &'a [u8], k: usize, s: &'a Segment) -> Part<'a>
 }
 
 /// The file of an executable, its front still to be filled.
-#[tactic(auto, using(crate::proofs::Images::parts_from, crate::proofs::Images::parts_done))]
+#[tactic(auto, using(crate::proofs::ImageFiles::parts_from, crate::proofs::ImageFiles::parts_done))]
 fn image_draft(alloc: Global, x: &Exec) -> Result<Growing, OutOfMemory>
     requires { length x.now.segments ≤ 16384 }
     ensures { IfOk result (λ g. draft_of g ≡ image_draft x.now) }
@@ -81,8 +81,12 @@ fn add_program_header(out: &mut Bytes, at: usize, s: &Segment) -> Result<(), Out
 }
 
 /// Adds the program headers.
-#[tactic(auto, using(crate::proofs::Images::headers_from, crate::proofs::Images::headers_done))]
-fn add_program_headers(out: &mut Bytes, from: usize, segments: &[Segment]) -> Result<(), OutOfMemory>
+#[tactic(auto, using(crate::proofs::ImageFiles::headers_from, crate::proofs::ImageFiles::headers_done))]
+fn add_program_headers(
+    out: &mut Bytes,
+    from: usize,
+    segments: &[Segment],
+) -> Result<(), OutOfMemory>
     requires few { length segments.now ≤ 16384 }
     requires near { from ≤ 1000000 }
     requires small { All (λ (s : Segment). length s.bytes ≤ 4194304) segments.now }
@@ -97,7 +101,7 @@ fn add_program_headers(out: &mut Bytes, from: usize, segments: &[Segment]) -> Re
 }
 
 /// What stands before the first segment: the header and the program headers.
-#[tactic(auto, using(crate::proofs::Images::length_program_headers))]
+#[tactic(auto, using(crate::proofs::ImageFiles::length_program_headers))]
 fn image_front(alloc: Global, x: &Exec, shoff: usize) -> Result<Bytes, OutOfMemory>
     requires few { length x.now.segments ≤ 16384 }
     requires small { All (λ (s : Segment). length s.bytes ≤ 4194304) x.now.segments }
@@ -120,11 +124,7 @@ fn image_front(alloc: Global, x: &Exec, shoff: usize) -> Result<Bytes, OutOfMemo
 }
 
 /// The ELF file of an executable. SPU ABI, "Object Files".
-#[tactic(
-    auto,
-    using(crate::proofs::Images::has_room, crate::proofs::Images::small_segments),
-    unfolding(crate::specs::Spelling::spell_exec)
-)]
+#[tactic(auto, using(crate::proofs::ImageFiles::has_room, crate::proofs::ImageFiles::small_segments), unfolding(crate::specs::Spelling::spell_exec))]
 pub fn write_exec(alloc: Global, x: &Exec) -> Result<Bytes, OutOfMemory>
     requires { IsValidExec x.now }
     ensures { IfOk result (λ b. b ≡ spell_exec x.now) }

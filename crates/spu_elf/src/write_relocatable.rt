@@ -134,17 +134,19 @@ fn object_draft(alloc: Global, o: &Object, symbols: usize) -> Result<Growing, Ou
 {
     let mut file = Growing::blank(alloc, 52)?;
     add_sections(&mut file, o.sections.as_slice())?;
-    add_groups(&mut file, alloc, symbols, o.sections.as_slice(), o.relocs.as_slice())?;
+    add_groups(
+        &mut file,
+        alloc,
+        symbols,
+        o.sections.as_slice(),
+        o.relocs.as_slice(),
+    )?;
     file.add_tables(alloc, symbols, &o.symbols)?;
     Ok(file)
 }
 
 /// The ELF file of an object. SPU ABI, "Object Files".
-#[tactic(
-    auto,
-    using(crate::proofs::Growth::object_has_room),
-    unfolding(crate::specs::Spelling::spell)
-)]
+#[tactic(auto, using(crate::proofs::Growth::object_has_room), unfolding(crate::specs::Spelling::spell))]
 pub fn write_object(alloc: Global, o: &Object) -> Result<Bytes, OutOfMemory>
     requires { IsValid o.now }
     ensures { IfOk result (λ b. b ≡ spell o.now) }

@@ -46,8 +46,8 @@ segments_fit d k [] = All-nil _
 segments_fit d k (s ∷ ss) =
     let e : Draft = added d (segment_part k s) in
     All-cons (λ (s : Segment). length s.bytes ≤ length (fold added e (segment_parts (k + 1) ss)).file) s ss
-      (omega (arith, holds_part d (segment_part k s), fold_grows e (segment_parts (k + 1) ss)))
-      (segments_fit e (k + 1) ss)
+    (omega (arith, holds_part d (segment_part k s), fold_grows e (segment_parts (k + 1) ss)))
+    (segments_fit e (k + 1) ss)
 
 exec_holds : (x : Exec) → length (fold added (blank (52 + 32 * length x.segments)) (segment_parts 0 x.segments)).file ≤ length (spell_exec x)
 unfolding spell_exec

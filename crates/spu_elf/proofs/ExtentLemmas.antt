@@ -1,0 +1,111 @@
+-- How long drafts and files are.
+use Rattle.std.proofs.Common.{◌≡◌, ℕ, ◌+◌, ◌*◌, ◌≤◌, List, [], ◌∷◌, ◌++◌, length, map, replicate, codes, drop, refl, sym, ap, subst, ◌∙◌, arith, if◌then◌else◌, ◌==◌}
+use Rattle.std.specs.List.{fold, flat_map, sum_by}
+use Rattle.std.proofs.lemmas.Bool.Decides.{nat_tests}
+use Rattle.std.proofs.lemmas.List.{length-append, length-replicate, length-drop}
+use Rattle.std.proofs.lemmas.List.Sums.{sum_by-cons}
+use Rattle.spu_word.specs.Bytes.{be_digits, be_half_digits}
+use Rattle.spu_elf.specs.declared.lengths.Extent.{Extent}
+use Rattle.spu_elf.specs.declared.objects.Section.{Section}
+use Rattle.spu_elf.specs.declared.objects.Symbol.{Symbol}
+use Rattle.spu_elf.specs.declared.objects.Reloc.{Reloc}
+use Rattle.spu_elf.specs.declared.objects.Object.{Object}
+use Rattle.spu_elf.specs.Spelling.{Part, Draft, Symbols, Group, added, blank, closed, aligned, padding, with_tables, section_part, section_header, name_place, symbol_part, symbol_table, string_table, ended, relocation, relocation_part, groups_of, symbols_number, object_draft, spell, file_of, elf_header, with_symbol, place_number, kind_number}
+use Rattle.spu_elf.specs.Lengths.{extent_of, ended_len, grown, blank_extent, section_grown, group_grown, strings_len, tables_grown, whole_len, object_len}
+use Rattle.spu_elf.proofs.FirstFiles.{length_aligned, length_added, length_heads, length_file_of}
+use Rattle.spu_elf.proofs.Growth.{object_room}
+
+ended_more : (n : ℕ) → ended_len (n + 1) ≡ n + 2
+ended_more n = grind (arith, nat_tests)
+
+length_ended : (name : List ℕ) → length (ended name) ≡ ended_len (length name)
+length_ended [] = refl
+length_ended (c ∷ cs) =
+    let e : length (c ∷ cs) ≡ length cs + 1 = omega arith in
+    omega (arith, length-append cs (0 ∷ []), ended_more (length cs), ap ended_len e)
+
+abbrev extent : ℕ → ℕ → ℕ → Extent
+extent a b c = record { file = a; heads = b; names = c }
+
+made : (a b c x y z : ℕ) → a ≡ x → b ≡ y → c ≡ z → extent a b c ≡ extent x y z
+made a b c x y z e f g = cc
+
+names_added : (d : Draft) (p : Part) → length (added d p).names ≡ length d.names + ended_len (length p.name)
+unfolding added
+names_added d p = length-append d.names (ended p.name) ∙ ap (λ (n : ℕ). length d.names + n) (length_ended p.name)
+
+extent_added : (d : Draft) (p : Part) → extent_of (added d p) ≡ grown (extent_of d) p.step (length p.name) (length p.bytes)
+extent_added d p = made _ _ _ _ _ _ (length_added d p) (length_heads d p) (names_added d p)
+
+extent_blank : (front : ℕ) → extent_of (blank front) ≡ blank_extent front
+unfolding blank
+extent_blank front = made _ _ _ _ _ _ (length-replicate {A = ℕ} front 0) refl refl
+
+extent_sections : (d : Draft) (ss : List Section) → extent_of (fold added d (map section_part ss)) ≡ fold section_grown (extent_of d) ss
+extent_sections d [] = refl
+extent_sections d (s ∷ ss) = extent_sections (added d (section_part s)) ss ∙ ap (λ (e : Extent). fold section_grown e ss) (extent_added d (section_part s))
+
+length_relocations : (rs : List Reloc) → length (flat_map relocation rs) ≡ 12 * length rs
+length_relocations [] = refl
+length_relocations (r ∷ rs) = omega (arith, length-append (relocation r) (flat_map relocation rs), length_relocations rs)
+
+extent_group : (d : Draft) (symbols : ℕ) (g : Group) → extent_of (added d (relocation_part symbols g)) ≡ group_grown (extent_of d) g
+extent_group d symbols g =
+    let name : length (codes ".rela" ++ g.name) ≡ 5 + length g.name = length-append (codes ".rela") g.name in
+    extent_added d (relocation_part symbols g)
+      ∙ ap (λ (n : ℕ). grown (extent_of d) 4 n (length (flat_map relocation g.relocs))) name
+      ∙ ap (λ (n : ℕ). grown (extent_of d) 4 (5 + length g.name) n) (length_relocations g.relocs)
+
+extent_groups : (d : Draft) (symbols : ℕ) (gs : List Group) → extent_of (fold added d (map (relocation_part symbols) gs)) ≡ fold group_grown (extent_of d) gs
+extent_groups d symbols [] = refl
+extent_groups d symbols (g ∷ gs) = extent_groups (added d (relocation_part symbols g)) symbols gs ∙ ap (λ (e : Extent). fold group_grown e gs) (extent_group d symbols g)
+
+entry_added : (t : Symbols) (s : Symbol) → length (with_symbol t s).entries ≡ length t.entries + 16
+unfolding with_symbol
+entry_added t s = length-append t.entries _
+
+string_added : (t : Symbols) (s : Symbol) → length (with_symbol t s).strings ≡ length t.strings + ended_len (length s.name)
+unfolding with_symbol
+string_added t s = length-append t.strings (ended s.name) ∙ ap (λ (n : ℕ). length t.strings + n) (length_ended s.name)
+
+entries_added : (t : Symbols) (ss : List Symbol) → length (fold with_symbol t ss).entries ≡ length t.entries + 16 * length ss
+entries_added t [] = omega arith
+entries_added t (s ∷ ss) = omega (arith, entries_added (with_symbol t s) ss, entry_added t s)
+
+strings_added : (t : Symbols) (ss : List Symbol) → length (fold with_symbol t ss).strings ≡ length t.strings + sum_by (λ (s : Symbol). ended_len (length s.name)) ss
+strings_added t [] = omega arith
+strings_added t (s ∷ ss) =
+    let f : Symbol → ℕ = λ (s : Symbol). ended_len (length s.name) in
+    strings_added (with_symbol t s) ss ∙ ap (λ (n : ℕ). n + sum_by f ss) (string_added t s) ∙ omega (arith, sum_by-cons f s ss)
+
+length_entries : (ss : List Symbol) → length (symbol_table ss).entries ≡ 16 + 16 * length ss
+length_entries ss = entries_added (record { entries = replicate 16 0; strings = 0 ∷ [] }) ss
+
+length_strings : (ss : List Symbol) → length (symbol_table ss).strings ≡ strings_len ss
+length_strings ss = strings_added (record { entries = replicate 16 0; strings = 0 ∷ [] }) ss
+
+pub extent_tables : (number : ℕ) (ss : List Symbol) (d : Draft) → extent_of (with_tables number ss d) ≡ tables_grown (extent_of d) (length ss) (strings_len ss)
+unfolding closed
+extent_tables number ss d =
+    let d1 : Draft = added d (symbol_part (number + 1) ss) in
+    let d2 : Draft = added d1 (string_table (codes ".strtab") (symbol_table ss).strings) in
+    let p : Part = string_table (codes ".shstrtab") (d2.names ++ ended (codes ".shstrtab")) in
+    let e1 : extent_of d1 ≡ grown (extent_of d) 4 7 (16 + 16 * length ss) = extent_added d (symbol_part (number + 1) ss) ∙ ap (grown (extent_of d) 4 7) (length_entries ss) in
+    let e2 : extent_of d2 ≡ grown (grown (extent_of d) 4 7 (16 + 16 * length ss)) 1 7 (strings_len ss) = extent_added d1 (string_table (codes ".strtab") (symbol_table ss).strings) ∙ ap (grown (extent_of d1) 1 7) (length_strings ss) ∙ ap (λ (e : Extent). grown e 1 7 (strings_len ss)) e1 in
+    let e3 : length p.bytes ≡ (extent_of d2).names + 10 = length-append d2.names (ended (codes ".shstrtab")) in
+    extent_added d2 p ∙ ap (grown (extent_of d2) 1 9) e3 ∙ ap (λ (e : Extent). grown e 1 9 (e.names + 10)) e2
+
+-- the length of a file by the extent of its draft
+pub length_whole : (front : List ℕ) (d : Draft) → length front ≤ length d.file → length (file_of front d) ≡ whole_len (extent_of d)
+length_whole front d room = length_file_of front d room ∙ ap (λ (n : ℕ). n + length d.heads) (length_aligned 4 d.file)
+
+pub spell_length : (o : Object) → length (spell o) ≡ object_len o
+unfolding spell
+spell_length o =
+    let n : ℕ = symbols_number o in
+    let d0 : Draft = fold added (blank 52) (map section_part o.sections) in
+    let d1 : Draft = fold added d0 (map (relocation_part n) (groups_of o)) in
+    let front : List ℕ = elf_header 1 0 0 (length (aligned 4 (object_draft o).file)) 0 0 (n + 3) in
+    let e0 : extent_of d0 ≡ fold section_grown (blank_extent 52) o.sections = extent_sections (blank 52) o.sections ∙ ap (λ (e : Extent). fold section_grown e o.sections) (extent_blank 52) in
+    let e1 : extent_of d1 ≡ fold group_grown (fold section_grown (blank_extent 52) o.sections) (groups_of o) = extent_groups d0 n (groups_of o) ∙ ap (λ (e : Extent). fold group_grown e (groups_of o)) e0 in
+    length_whole front (object_draft o) (object_room o) ∙ ap whole_len (extent_tables n o.symbols d1 ∙ ap (λ (e : Extent). tables_grown e (length o.symbols) (strings_len o.symbols)) e1)

@@ -1,0 +1,6 @@
+pub mod Lanes
+pub mod Quads
+pub mod Values
+pub mod Reads
+pub mod Places
+pub mod Channels
