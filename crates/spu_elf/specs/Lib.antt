@@ -4,3 +4,4 @@ pub mod First
 pub mod FirstImage
 pub mod Lengths
 pub mod Views
+pub mod First

@@ -1,0 +1,6 @@
+pub mod PartsLemmas
+pub mod NumeralLemmas
+pub mod OperandLemmas
+pub mod LineLemmas
+pub mod FormLemmas
+pub mod ObjectLemmas

@@ -1,0 +1,6 @@
+pub mod Parts
+pub mod Numerals
+pub mod Lines
+pub mod Operands
+pub mod Forms
+pub mod Answers

@@ -1,0 +1,12 @@
+//! Objects from assembly texts.
+#![tactic(auto)]
+
+mod assembler;
+mod faults;
+mod instructions;
+mod numerals;
+mod operands;
+mod parts;
+
+pub use assembler::assemble;
+pub use faults::{AsmFault, AsmKind};
