@@ -17,6 +17,7 @@ use Rattle.spu_reloc.specs.declared.field.RelocKind.{RelocKind}
 use Rattle.spu_reloc.specs.declared.field.RelocKind.TheVariants as relocs
 use Rattle.spu_reloc.specs.Fields.{fits_on, patched}
 use Rattle.spu_exec.specs.Values.{value}
+use Rattle.spu_exec.proofs.Laws.{lane_law_lem}
 use Rattle.spu_exec.specs.Places.{code_mask, quad_mask, taken_of, place_of}
 use Rattle.spu_exec.specs.Lanes.{immediate}
 use Rattle.spu_elf.specs.First.{MayStand, IsFirstInst}
@@ -56,7 +57,7 @@ pub record Premises (name : List ℕ) (size : ℕ) (words : List SymInst) (limit
   pub image : IsImage (first_program name size words) limit x
 
 lane_law_of : (z : Inst) → (row_of z.op).kind ≡ kind.Compute → KeepsLaneLaw z
-lane_law_of z k = ?
+lane_law_of z k = record { law = λ a b c t a' b' c' t' k lt ra rb rc rt. lane_law_lem z a b c t a' b' c' t' k lt ra rb rc rt }
 
 -- the machine obeys the instruction that it reads
 machine_step : (m : State) (z : Inst) → m.ended ≡ None → Decodes (fetch m.store m.pc) z → machine.step m ≡ machine.obeys (Some z) m

@@ -2,3 +2,4 @@ pub mod Agreement
 pub mod Segments
 pub mod Hops
 pub mod FirstImages
+pub mod Links
