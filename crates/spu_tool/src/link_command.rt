@@ -1,0 +1,110 @@
+//! What `link` makes of an object's bytes.
+
+ghost use Rattle.std.specs.Prelude.{◌≡◌, ◌++◌, ◌≤◌, ◌∷◌, [], ℕ, codes, Some, None, IfOk};
+ghost use Rattle.spu_tool.specs.Makes.{HasRoot, MakesLink, made, refused, summary, summary_of, default_limit};
+ghost use Rattle.spu_tool.specs.declared.status.Status.TheVariants as Status;
+
+use crate::made::Made;
+use crate::status::Status;
+use spu_elf::{ElfFault, Object, read_object};
+use spu_image::{LinkFault, LinkOptions, Linked, link};
+use spu_word::{Bytes, OutOfMemory, Seq};
+use std::alloc::Global;
+
+/// The stack's size, if the words don't say it.
+const DEFAULT_LIMIT: u32 = 16_384;
+
+/// What is made of input that has a fault: the fault's line.
+pub fn refusal(alloc: Global, line: &str) -> Result<Made, OutOfMemory>
+    ensures { IfOk result (λ m. m ≡ record { status = Status.Refused; file = None; text = line.now }) }
+{
+    Ok(Made {
+        status: Status::Refused,
+        file: None,
+        text: Seq::copied(alloc, line.as_bytes())?,
+    })
+}
+
+/// What is made of bytes that spell no object of the first form.
+fn not_built(alloc: Global, name: &str) -> Result<Made, OutOfMemory>
+    ensures { IfOk result (λ m. m ≡ refused (codes "L0 NotBuilt " ++ name.now)) }
+{
+    let line = format!(in alloc; "L0 NotBuilt {name}\n")?;
+    refusal(alloc, line.as_str())
+}
+
+fn default_options(alloc: Global) -> Result<LinkOptions, OutOfMemory>
+    ensures { IfOk result (λ o. o ≡ record { entry = codes "main"; limit = default_limit }) }
+{
+    Ok(LinkOptions {
+        entry: Seq::copied(alloc, b"main")?,
+        limit: DEFAULT_LIMIT,
+    })
+}
+
+fn alone(alloc: Global, object: Object) -> Result<Seq<Object>, OutOfMemory>
+    ensures { IfOk result (λ objects. objects ≡ object ∷ []) }
+{
+    let mut objects = Seq::new(alloc);
+    objects.push(object)?;
+    Ok(objects)
+}
+
+/// The summary of a flat image with this many functions beside the start code, whose code ends at `top`.
+fn summary(alloc: Global, functions: usize, need: u32, limit: u32, top: usize) -> Result<Bytes, OutOfMemory>
+    requires { limit ≤ 262112 }
+    ensures { IfOk result (λ t. t ≡ summary_of functions need limit top) }
+{
+    let room = 262_112 - limit;
+    let text = format!(in alloc; "image flat\nfunctions {functions}\nstack {need} of {limit}\ntop {top} of {room}\n")?;
+    Seq::copied(alloc, text.as_bytes())
+}
+
+/// The summary of what was linked.
+fn linked_summary(alloc: Global, linked: &Linked) -> Result<Bytes, OutOfMemory>
+    requires { HasRoot linked.now }
+    ensures { IfOk result (λ t. t ≡ summary linked.now.prog default_limit 0) }
+{
+    match linked.exec.segments.as_slice() {
+        [root, ..] => summary(
+            alloc,
+            linked.prog.functions.len() - 1,
+            0,
+            DEFAULT_LIMIT,
+            128 + root.bytes.len(),
+        ),
+        [] => unreachable!(),
+    }
+}
+
+/// What is made of an object that is linked.
+fn linked_made(alloc: Global, linked: Linked) -> Result<Made, OutOfMemory>
+    requires { HasRoot linked }
+    ensures { IfOk result (λ m. m ≡ made Status.Ok (Some linked.file) (summary linked.prog default_limit 0)) }
+{
+    let text = linked_summary(alloc, &linked)?;
+    let Linked { file, .. } = linked;
+    Ok(Made {
+        status: Status::Ok,
+        file: Some(file),
+        text,
+    })
+}
+
+/// What is made of an object's bytes.
+pub fn link_command(alloc: Global, name: &str, bytes: &[u8]) -> Result<Made, OutOfMemory>
+    ensures { IfOk result (MakesLink name.now bytes.now) }
+{
+    let object = match read_object(alloc, bytes) {
+        Ok(object) => object,
+        Err(ElfFault::NotBuilt) => return not_built(alloc, name),
+        Err(ElfFault::OutOfMemory) => return Err(OutOfMemory),
+    };
+    let objects = alone(alloc, object)?;
+    let options = default_options(alloc)?;
+    match link(alloc, &objects, &options) {
+        Ok(linked) => linked_made(alloc, linked),
+        Err(LinkFault::NotBuilt(_)) => not_built(alloc, name),
+        Err(LinkFault::OutOfMemory) => Err(OutOfMemory),
+    }
+}

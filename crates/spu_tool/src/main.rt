@@ -1,0 +1,48 @@
+//! The tool: an object is linked to an executable.
+#![tactic(auto)]
+
+mod concluding;
+mod link_command;
+mod made;
+mod status;
+mod tool;
+mod words;
+
+use crate::status::{Status, status_number};
+use crate::tool::tool;
+use spu_io::{DiskFiles, StdSink};
+use std::alloc::Global;
+use std::env;
+use std::io;
+use std::process::ExitCode;
+
+/// The words without the program's name. Words that aren't all UTF-8 are no words at all.
+fn words_of(rt: &HostRuntime) -> Option<Vec<String>> {
+    let alloc = rt.alloc();
+    match env::args(rt) {
+        Ok(all) => {
+            let mut words = Vec::new(alloc);
+            for word in all.skip(1) {
+                words.push(word).ok()?;
+            }
+            Some(words)
+        }
+        Err(e) => match e.kind() {
+            io::ErrorKind::OutOfMemory => None,
+            _ => Some(Vec::new(alloc)),
+        },
+    }
+}
+
+fn main(rt: HostRuntime) -> ExitCode {
+    let status = match words_of(&rt) {
+        Some(words) => {
+            let alloc = rt.alloc();
+            let mut files = DiskFiles::new(&rt, alloc);
+            let mut out = StdSink::new(&rt);
+            tool(alloc, &words, &mut files, &mut out)
+        }
+        None => Status::OutOfMemory,
+    };
+    ExitCode::from(status_number(status))
+}
