@@ -1,19 +1,21 @@
 -- How long drafts and files are.
-use Rattle.std.proofs.Common.{◌≡◌, ℕ, ◌+◌, ◌*◌, ◌≤◌, List, [], ◌∷◌, ◌++◌, length, map, replicate, codes, drop, refl, sym, ap, subst, ◌∙◌, arith, if◌then◌else◌, ◌==◌}
+use Rattle.std.proofs.Common.{◌≡◌, ℕ, ◌+◌, ◌*◌, ◌≤◌, List, [], ◌∷◌, ◌++◌, length, map, replicate, codes, refl, ap, ◌∙◌, arith}
 use Rattle.std.specs.List.{fold, flat_map, sum_by}
 use Rattle.std.proofs.lemmas.Bool.Decides.{nat_tests}
-use Rattle.std.proofs.lemmas.List.{length-append, length-replicate, length-drop}
+use Rattle.std.proofs.lemmas.List.{length-append, length-replicate}
 use Rattle.std.proofs.lemmas.List.Sums.{sum_by-cons}
-use Rattle.spu_word.specs.Bytes.{be_digits, be_half_digits}
 use Rattle.spu_elf.specs.declared.lengths.Extent.{Extent}
 use Rattle.spu_elf.specs.declared.objects.Section.{Section}
 use Rattle.spu_elf.specs.declared.objects.Symbol.{Symbol}
 use Rattle.spu_elf.specs.declared.objects.Reloc.{Reloc}
 use Rattle.spu_elf.specs.declared.objects.Object.{Object}
-use Rattle.spu_elf.specs.Spelling.{Part, Draft, Symbols, Group, added, blank, closed, aligned, padding, with_tables, section_part, section_header, name_place, symbol_part, symbol_table, string_table, ended, relocation, relocation_part, groups_of, symbols_number, object_draft, spell, file_of, elf_header, with_symbol, place_number, kind_number}
-use Rattle.spu_elf.specs.Lengths.{extent_of, ended_len, grown, blank_extent, section_grown, group_grown, strings_len, tables_grown, whole_len, object_len}
+use Rattle.spu_elf.specs.declared.objects.Segment.{Segment}
+use Rattle.spu_elf.specs.declared.objects.Exec.{Exec}
+use Rattle.spu_elf.specs.Spelling.{Part, Draft, Symbols, Group, added, blank, closed, aligned, with_tables, section_part, symbol_part, symbol_table, string_table, ended, relocation, relocation_part, groups_of, symbols_number, object_draft, spell, file_of, elf_header, with_symbol, segment_part, segment_parts, image_draft, image_front, program_headers, spell_exec}
+use Rattle.spu_elf.specs.Lengths.{extent_of, ended_len, grown, blank_extent, section_grown, group_grown, strings_len, tables_grown, whole_len, object_len, segments_grown, exec_len}
+use Rattle.spu_elf.proofs.ImageFiles.{length_program_headers}
 use Rattle.spu_elf.proofs.FirstFiles.{length_aligned, length_added, length_heads, length_file_of}
-use Rattle.spu_elf.proofs.Growth.{object_room}
+use Rattle.spu_elf.proofs.Growth.{object_room, grows_parts}
 
 ended_more : (n : ℕ) → ended_len (n + 1) ≡ n + 2
 ended_more n = grind (arith, nat_tests)
@@ -53,8 +55,8 @@ extent_group : (d : Draft) (symbols : ℕ) (g : Group) → extent_of (added d (r
 extent_group d symbols g =
     let name : length (codes ".rela" ++ g.name) ≡ 5 + length g.name = length-append (codes ".rela") g.name in
     extent_added d (relocation_part symbols g)
-      ∙ ap (λ (n : ℕ). grown (extent_of d) 4 n (length (flat_map relocation g.relocs))) name
-      ∙ ap (λ (n : ℕ). grown (extent_of d) 4 (5 + length g.name) n) (length_relocations g.relocs)
+    ∙ ap (λ (n : ℕ). grown (extent_of d) 4 n (length (flat_map relocation g.relocs))) name
+    ∙ ap (λ (n : ℕ). grown (extent_of d) 4 (5 + length g.name) n) (length_relocations g.relocs)
 
 extent_groups : (d : Draft) (symbols : ℕ) (gs : List Group) → extent_of (fold added d (map (relocation_part symbols) gs)) ≡ fold group_grown (extent_of d) gs
 extent_groups d symbols [] = refl
@@ -109,3 +111,32 @@ spell_length o =
     let e0 : extent_of d0 ≡ fold section_grown (blank_extent 52) o.sections = extent_sections (blank 52) o.sections ∙ ap (λ (e : Extent). fold section_grown e o.sections) (extent_blank 52) in
     let e1 : extent_of d1 ≡ fold group_grown (fold section_grown (blank_extent 52) o.sections) (groups_of o) = extent_groups d0 n (groups_of o) ∙ ap (λ (e : Extent). fold group_grown e (groups_of o)) e0 in
     length_whole front (object_draft o) (object_room o) ∙ ap whole_len (extent_tables n o.symbols d1 ∙ ap (λ (e : Extent). tables_grown e (length o.symbols) (strings_len o.symbols)) e1)
+
+-- a file that is not too long has few symbols
+pub few_symbols : (o : Object) → length (spell o) ≤ 4194304 → length o.symbols ≤ 262144
+few_symbols o small = omega (arith, spell_length o)
+
+-- ---- executables
+
+extent_segments : (d : Draft) (k : ℕ) (ss : List Segment) → extent_of (fold added d (segment_parts k ss)) ≡ segments_grown (extent_of d) k ss
+unfolding segment_parts
+extent_segments d k [] = refl
+extent_segments d k (s ∷ ss) = extent_segments (added d (segment_part k s)) (k + 1) ss ∙ ap (λ (e : Extent). segments_grown e (k + 1) ss) (extent_added d (segment_part k s))
+
+length_front : (x : Exec) (shoff : ℕ) → length (image_front x shoff) ≡ 52 + 32 * length x.segments
+length_front x shoff =
+    let n : ℕ = length x.segments in
+    omega (arith, length-append (elf_header 2 x.entry 52 shoff 32 n (n + 4)) (program_headers (52 + 32 * n) x.segments), length_program_headers (52 + 32 * n) x.segments)
+
+pub spell_exec_length : (x : Exec) → length (spell_exec x) ≡ exec_len x
+unfolding spell_exec
+spell_exec_length x =
+    let n : ℕ = length x.segments in
+    let d : Draft = fold added (blank (52 + 32 * n)) (segment_parts 0 x.segments) in
+    let shoff : ℕ = length (aligned 4 (image_draft x).file) in
+    let room : length (image_front x shoff) ≤ length (image_draft x).file = omega (arith, length_front x shoff, grows_parts (52 + 32 * n) (segment_parts 0 x.segments) (1 + n) x.symbols) in
+    let e : extent_of d ≡ segments_grown (blank_extent (52 + 32 * n)) 0 x.segments = extent_segments (blank (52 + 32 * n)) 0 x.segments ∙ ap (λ (e : Extent). segments_grown e 0 x.segments) (extent_blank (52 + 32 * n)) in
+    length_whole (image_front x shoff) (image_draft x) room ∙ ap whole_len (extent_tables (1 + n) x.symbols d ∙ ap (λ (e : Extent). tables_grown e (length x.symbols) (strings_len x.symbols)) e)
+
+pub few_exec_symbols : (x : Exec) → length (spell_exec x) ≤ 4194304 → length x.symbols ≤ 262144
+few_exec_symbols x small = omega (arith, spell_exec_length x)

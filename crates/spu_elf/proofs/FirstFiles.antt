@@ -1,15 +1,14 @@
 -- The fields of a file that spells an object of the first form.
-use Rattle.std.proofs.Common.{◌≡◌, ℕ, ◌+◌, ◌-◌, ◌*◌, ◌^◌, ◌/◌, ◌%◌, ◌≤◌, ◌<◌, List, [], ◌∷◌, ◌++◌, length, take, drop, replicate, codes, map, refl, sym, ap, subst, ◌∙◌, append_assoc, append-nil, arith, lit≤, inl}
-use Rattle.std.specs.List.{fold, flat_map, All}
+use Rattle.std.proofs.Common.{◌≡◌, ℕ, ◌+◌, ◌-◌, ◌^◌, ◌%◌, ◌≤◌, ◌<◌, List, [], ◌∷◌, ◌++◌, length, take, drop, replicate, codes, refl, sym, ap, subst, ◌∙◌, append_assoc, arith, lit≤}
+use Rattle.std.specs.List.{flat_map}
 use Rattle.std.proofs.lemmas.List.{length-append, length-replicate, length-drop}
-use Rattle.std.proofs.lemmas.List.Elements.{All-nil, All-cons}
 use Rattle.spu_word.specs.Bytes.{be_digits, be_number}
 use Rattle.spu_word.proofs.Stands.{Stands, stands_more, stands_after, stands_last, stands_at, stands_inner, stands_slice, stands_cut, stands_number}
 use Rattle.spu_elf.specs.declared.objects.Object.{Object}
 use Rattle.spu_elf.specs.declared.objects.Section.{Section}
 use Rattle.spu_elf.specs.declared.objects.SecKind.{SecKind}
 use Rattle.spu_elf.specs.declared.objects.SecKind.TheVariants as kinds
-use Rattle.spu_elf.specs.Spelling.{Part, Draft, added, blank, closed, aligned, padding, with_tables, section_part, symbol_part, symbol_table, string_table, section_header, name_place, ended, groups, object_draft, spell, file_of, elf_header, with_symbol}
+use Rattle.spu_elf.specs.Spelling.{Part, Draft, added, blank, closed, aligned, padding, section_part, symbol_part, symbol_table, string_table, section_header, name_place, ended, groups, spell, file_of, elf_header, with_symbol}
 use Rattle.spu_elf.specs.First.{IsFirstSection, IsFirst, main_of, object_of, candidate}
 
 -- ---- drafts with one more part at a known place

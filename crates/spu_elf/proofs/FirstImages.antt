@@ -1,14 +1,14 @@
 -- The fields of a file that spells an image of the first form, and that such an image is valid.
-use Rattle.std.proofs.Common.{◌≡◌, ℕ, ◌+◌, ◌-◌, ◌*◌, ◌^◌, ◌/◌, ◌%◌, ◌≤◌, ◌<◌, true, false, List, [], ◌∷◌, ◌++◌, length, take, drop, replicate, codes, refl, sym, ap, subst, ◌∙◌, append_assoc, arith, lit≤, lit<}
-use Rattle.std.specs.List.{fold, flat_map, All}
-use Rattle.std.proofs.lemmas.List.{length-append, length-replicate, length-drop}
+use Rattle.std.proofs.Common.{◌≡◌, ℕ, ◌+◌, ◌^◌, ◌%◌, ◌≤◌, ◌<◌, true, List, [], ◌∷◌, ◌++◌, length, take, drop, replicate, codes, refl, sym, ap, subst, ◌∙◌, append_assoc, arith, lit≤, lit<}
+use Rattle.std.specs.List.{flat_map}
+use Rattle.std.proofs.lemmas.List.{length-append}
 use Rattle.std.proofs.lemmas.List.Elements.{All-nil, All-cons}
 use Rattle.spu_word.specs.Bytes.{be_digits, be_number}
-use Rattle.spu_word.proofs.Stands.{Stands, stands_more, stands_after, stands_last, stands_at, stands_inner, stands_slice, stands_number, stands_whole}
+use Rattle.spu_word.proofs.Stands.{Stands, stands_more, stands_last, stands_at, stands_inner, stands_slice, stands_number}
 use Rattle.spu_elf.specs.declared.objects.Segment.{Segment}
 use Rattle.spu_elf.specs.declared.objects.Symbol.{Symbol}
 use Rattle.spu_elf.specs.declared.objects.Exec.{Exec}
-use Rattle.spu_elf.specs.Spelling.{Part, Draft, added, blank, closed, aligned, padding, with_tables, symbol_part, symbol_table, string_table, ended, file_of, elf_header, with_symbol, segment_part, segment_parts, program_header, program_headers, begins, image_front, spell_exec}
+use Rattle.spu_elf.specs.Spelling.{Part, Draft, added, blank, closed, aligned, padding, symbol_part, symbol_table, string_table, ended, file_of, elf_header, with_symbol, segment_part, segment_parts, program_header, program_headers, image_front, spell_exec}
 use Rattle.spu_elf.specs.Validity.{IsValidExec, IsValidSegment, IsExecSymbol}
 use Rattle.spu_elf.specs.FirstImage.{start_code, image_segment, image_symbol, image_of, IsCode, IsFirstImage, code_size, candidate_code}
 use Rattle.spu_elf.proofs.FirstFiles.{length_aligned, stays, in_file, length_file_of, length_step, place_step, length_added, length_heads, length_blank, length_blank_heads, no_padding_1, no_padding_4}

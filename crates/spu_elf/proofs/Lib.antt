@@ -5,3 +5,5 @@ pub mod FirstValid
 pub mod Groups
 pub mod Growth
 pub mod ImageFiles
+pub mod Ordered
+pub mod SegmentNames

@@ -1,5 +1,5 @@
 -- Objects of the first form: one function `main` that is the whole of its one section, of twelve instructions.
-use Rattle.std.specs.Prelude.{◌≡◌, ◌≢◌, ℕ, ◌+◌, ◌-◌, ◌*◌, ◌/◌, ◌%◌, ◌^◌, ◌<◌, ◌≤◌, true, List, [], ◌∷◌, ◌++◌, length, take, drop, codes}
+use Rattle.std.specs.Prelude.{◌≡◌, ◌≢◌, ℕ, ◌+◌, ◌-◌, ◌*◌, ◌/◌, ◌%◌, ◌^◌, ◌<◌, ◌≤◌, true, List, [], ◌∷◌, length, take, drop, codes}
 use Rattle.std.specs.Int.{is_power_of_two}
 use Rattle.spu_word.specs.Bytes.{be_number}
 use Rattle.spu_isa.specs.Table.{Decodes}

@@ -1,8 +1,7 @@
 -- Which names, objects and executables are valid: those that have a file.
-use Rattle.std.specs.Prelude.{◌≡◌, ◌≢◌, ℕ, ◌+◌, ◌*◌, ◌%◌, ◌<◌, ◌≤◌, Bool, true, false, IsTrue, Option, Some, None, IfSome, List, [], ◌∷◌, ◌++◌, length, drop, codes, slice_get, All, ◌⊎◌}
-use Rattle.std.specs.List.{Any}
+use Rattle.std.specs.Prelude.{◌≡◌, ◌≢◌, ℕ, ◌+◌, ◌%◌, ◌<◌, ◌≤◌, true, false, Some, List, [], ◌∷◌, length, drop, codes, slice_get, All, ◌⊎◌}
 use Rattle.std.specs.Int.{is_power_of_two}
-use Rattle.spu_elf.specs.Spelling.{locals, is_in, symbols_number, spell, spell_exec}
+use Rattle.spu_elf.specs.Spelling.{locals, symbols_number, spell, spell_exec}
 use Rattle.spu_elf.specs.declared.objects.Section.{Section}
 use Rattle.spu_elf.specs.declared.objects.SecKind.{SecKind}
 use Rattle.spu_elf.specs.declared.objects.SecKind.TheVariants as kinds

@@ -2,10 +2,10 @@
 
 ghost use Rattle.std.specs.Prelude.{◌≡◌, ◌+◌, ◌*◌, ◌^◌, ◌<◌, ◌≤◌, ℕ, List, length};
 ghost use Rattle.std.specs.List.{fold, sum_by};
-ghost use Rattle.spu_elf.specs.Spelling.{groups, group_of, groups_of, spell};
-ghost use Rattle.spu_elf.specs.Lengths.{grown, ended_len, blank_extent, section_grown, group_grown, strings_len, tables_grown, whole_len, object_len};
+ghost use Rattle.spu_elf.specs.Spelling.{groups, group_of, groups_of, spell, segment_name, spell_exec};
+ghost use Rattle.spu_elf.specs.Lengths.{grown, ended_len, blank_extent, section_grown, group_grown, strings_len, tables_grown, whole_len, object_len, segments_grown, exec_len};
 
-use crate::objects::{Object, Reloc, Section, Symbol};
+use crate::objects::{Exec, Object, Reloc, Section, Segment, Symbol};
 use crate::tables::group_len;
 
 /// How long a file that grows is so far: its bytes, the section headers, and their names.
@@ -170,4 +170,58 @@ pub fn object_len(o: &Object) -> u128
     let groups = groups_extent(&sections, o.sections.as_slice(), o.relocs.as_slice());
     let strings = strings_len(o.symbols.as_slice());
     whole_len(&tables_grown(&groups, o.symbols.len() as u128, strings))
+}
+
+/// How long the name of segment k is.
+#[tactic(auto, using(crate::proofs::SegmentNames::length_1, crate::proofs::SegmentNames::length_2, crate::proofs::SegmentNames::length_3, crate::proofs::SegmentNames::length_4, crate::proofs::SegmentNames::length_5))]
+fn segment_name_len(k: usize) -> u128
+    requires { k < 100000 }
+    ensures value { result ≡ length (segment_name k) }
+    ensures small { result ≤ 7 }
+{
+    if k == 0 {
+        5
+    } else if k < 10 {
+        3
+    } else if k < 100 {
+        4
+    } else if k < 1000 {
+        5
+    } else if k < 10000 {
+        6
+    } else {
+        7
+    }
+}
+
+/// The file with the segments.
+#[tactic(auto, using(crate::proofs::SegmentNames::segments_from, crate::proofs::SegmentNames::segments_done))]
+fn segments_extent(e: &Extent, segments: &[Segment]) -> Extent
+    requires few { length segments.now ≤ 16384 }
+    requires file { e.now.file ≤ 1000000 }
+    requires heads { e.now.heads ≤ 1000 }
+    requires names { e.now.names ≤ 1000 }
+    ensures value { result ≡ segments_grown e.now 0 segments.now }
+    ensures file { result.file < 2 ^ 80 }
+    ensures heads { result.heads < 2 ^ 30 }
+    ensures names { result.names < 2 ^ 30 }
+{
+    let mut extent = *e;
+    for (k, s) in segments.iter().enumerate() {
+        extent = extent.grown(128, segment_name_len(k), s.bytes.len() as u128);
+    }
+    extent
+}
+
+/// How long the file of an executable is.
+#[tactic(auto, using(crate::proofs::ExtentLemmas::spell_exec_length))]
+pub fn exec_len(x: &Exec) -> u128
+    requires segments { length x.now.segments ≤ 16384 }
+    requires symbols { length x.now.symbols < 2 ^ 40 }
+    ensures { result ≡ length (spell_exec x.now) }
+{
+    let front = 52 + 32 * x.segments.len() as u128;
+    let segments = segments_extent(&blank_extent(front), x.segments.as_slice());
+    let strings = strings_len(x.symbols.as_slice());
+    whole_len(&tables_grown(&segments, x.symbols.len() as u128, strings))
 }

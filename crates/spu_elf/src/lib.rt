@@ -10,6 +10,7 @@ pub mod names;
 pub mod objects;
 pub mod read_first;
 pub mod tables;
+pub mod validity;
 pub mod write_executable;
 pub mod write_relocatable;
 

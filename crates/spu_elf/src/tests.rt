@@ -1,5 +1,5 @@
 use super::*;
-use spu_word::Seq;
+use spu_word::{OutOfMemory, Seq};
 use std::alloc::Global;
 use std::process::Abort;
 use std::test::Fail;
@@ -40,6 +40,25 @@ const IMAGE: [u8; 448] = [
     0, 0, 0, 0, 0, 0, 0, 0, 0, 1, 0, 0, 0, 0,
 ];
 
+/// The object of `br f` in a local function `go`, with a relocation on the undefined symbol `f`.
+const RELOCATED: [u8; 420] = [
+    127, 69, 76, 70, 1, 2, 1, 0, 0, 0, 0, 0, 0, 0, 0, 0, 0, 1, 0, 23, 0, 0, 0, 1, 0, 0, 0, 0, 0, 0,
+    0, 0, 0, 0, 0, 180, 0, 0, 0, 0, 0, 52, 0, 0, 0, 0, 0, 40, 0, 6, 0, 5, 0, 0, 0, 0, 0, 0, 0, 0,
+    0, 0, 0, 0, 50, 0, 0, 0, 0, 0, 0, 0, 0, 0, 2, 7, 255, 255, 255, 252, 0, 0, 0, 0, 0, 0, 0, 0, 0,
+    0, 0, 0, 0, 0, 0, 0, 0, 0, 0, 1, 0, 0, 0, 0, 0, 0, 0, 4, 2, 0, 0, 1, 0, 0, 0, 4, 0, 0, 0, 0, 0,
+    0, 0, 0, 16, 0, 0, 0, 0, 103, 111, 0, 102, 0, 0, 46, 116, 101, 120, 116, 0, 46, 114, 101, 108,
+    97, 46, 116, 101, 120, 116, 0, 46, 115, 121, 109, 116, 97, 98, 0, 46, 115, 116, 114, 116, 97,
+    98, 0, 46, 115, 104, 115, 116, 114, 116, 97, 98, 0, 0, 0, 0, 0, 0, 0, 0, 0, 0, 0, 0, 0, 0, 0,
+    0, 0, 0, 0, 0, 0, 0, 0, 0, 0, 0, 0, 0, 0, 0, 0, 0, 0, 0, 0, 0, 0, 0, 0, 0, 0, 0, 0, 0, 0, 0, 1,
+    0, 0, 0, 1, 0, 0, 0, 6, 0, 0, 0, 0, 0, 0, 0, 64, 0, 0, 0, 4, 0, 0, 0, 0, 0, 0, 0, 0, 0, 0, 0,
+    4, 0, 0, 0, 0, 0, 0, 0, 7, 0, 0, 0, 4, 0, 0, 0, 0, 0, 0, 0, 0, 0, 0, 0, 68, 0, 0, 0, 12, 0, 0,
+    0, 3, 0, 0, 0, 1, 0, 0, 0, 4, 0, 0, 0, 12, 0, 0, 0, 18, 0, 0, 0, 2, 0, 0, 0, 0, 0, 0, 0, 0, 0,
+    0, 0, 80, 0, 0, 0, 48, 0, 0, 0, 4, 0, 0, 0, 2, 0, 0, 0, 4, 0, 0, 0, 16, 0, 0, 0, 26, 0, 0, 0,
+    3, 0, 0, 0, 0, 0, 0, 0, 0, 0, 0, 0, 128, 0, 0, 0, 6, 0, 0, 0, 0, 0, 0, 0, 0, 0, 0, 0, 1, 0, 0,
+    0, 0, 0, 0, 0, 34, 0, 0, 0, 3, 0, 0, 0, 0, 0, 0, 0, 0, 0, 0, 0, 134, 0, 0, 0, 44, 0, 0, 0, 0,
+    0, 0, 0, 0, 0, 0, 0, 1, 0, 0, 0, 0,
+];
+
 /// The object with another byte at a place is not of the first form.
 fn is_refused(rt: &impl Abort, alloc: Global, at: usize, byte: u8) {
     let mut bytes = OBJECT;
@@ -54,6 +73,7 @@ fn reads_an_object(rt: HostRuntime) -> Result<(), Fail> {
         .ok()
         .ok_or("an object of the first form")?;
     assert!(rt; is_first(&o));
+    assert!(rt; o.valid());
     assert_eq!(rt; o.sections.len(), 1);
     let again = read_written_object(rt.alloc(), &o).ok().ok_or("memory")?;
     assert_eq!(rt; again.symbols.len(), 1);
@@ -98,5 +118,70 @@ fn reads_an_image(rt: HostRuntime) -> Result<(), Fail> {
         read_exec(rt.alloc(), &IMAGE[..447]).err(),
         Some(ElfFault::NotBuilt)
     );
+    Ok(())
+}
+
+/// A symbol of an object of one section.
+fn symbol(
+    alloc: Global,
+    name: &[u8],
+    size: u32,
+    kind: SymKind,
+    place: SymPlace,
+) -> Result<Symbol, OutOfMemory> {
+    Ok(Symbol {
+        name: Seq::copied(alloc, name)?,
+        value: 0,
+        size,
+        kind,
+        global: kind == SymKind::Plain,
+        place,
+    })
+}
+
+/// The object whose file `RELOCATED` is.
+fn relocated(alloc: Global) -> Result<Object, OutOfMemory> {
+    let mut sections = Seq::new(alloc);
+    sections.push(Section {
+        name: Seq::copied(alloc, b".text")?,
+        kind: SecKind::Code,
+        align: 4,
+        size: 4,
+        bytes: Seq::copied(alloc, &[0x32, 0, 0, 0])?,
+    })?;
+    let mut symbols = Seq::new(alloc);
+    symbols.push(symbol(alloc, b"go", 4, SymKind::Function, SymPlace::Inside(0))?)?;
+    symbols.push(symbol(alloc, b"f", 0, SymKind::Plain, SymPlace::Undefined)?)?;
+    let mut relocs = Seq::new(alloc);
+    relocs.push(Reloc {
+        section: 0,
+        offset: 0,
+        symbol: 1,
+        kind: 7,
+        addend: -4,
+    })?;
+    Ok(Object {
+        sections,
+        symbols,
+        relocs,
+    })
+}
+
+#[test]
+fn writes_relocations(rt: HostRuntime) -> Result<(), Fail> {
+    let mut o = relocated(rt.alloc()).ok().ok_or("memory")?;
+    assert!(rt; o.valid());
+    let bytes = write_object(rt.alloc(), &o).ok().ok_or("memory")?;
+    assert_eq!(rt; bytes.as_slice(), RELOCATED.as_slice());
+    // a second relocation, of a section that is not there
+    let other = Reloc {
+        section: 1,
+        offset: 0,
+        symbol: 0,
+        kind: 7,
+        addend: 0,
+    };
+    assert_eq!(rt; o.relocs.push(other), Ok(()));
+    assert!(rt; !o.valid());
     Ok(())
 }

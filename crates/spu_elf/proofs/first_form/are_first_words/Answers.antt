@@ -1,4 +1,4 @@
-use Rattle.std.proofs.Common.{◌≡◌, ◌*◌, ◌<◌, ℕ, subst, below_more, IsTrue, rules}
+use Rattle.std.proofs.Common.{◌*◌, ℕ, subst, below_more, IsTrue, rules}
 use Rattle.spu_word.specs.Bytes.{be_number}
 use Rattle.spu_elf.specs.First.{IsFirstWord}
 use Rattle.spu_elf.proofs.first_form.are_first_words.Goals as goal

@@ -1,4 +1,4 @@
-use Rattle.std.proofs.Common.{◌≡◌, true, IsTrue, rules}
+use Rattle.std.proofs.Common.{IsTrue, rules}
 use Rattle.spu_elf.proofs.FirstValid.{first_is_valid}
 use Rattle.spu_elf.proofs.read_first.read_object.Goals as goal
 
