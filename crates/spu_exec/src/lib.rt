@@ -8,6 +8,8 @@ mod law;
 mod places;
 mod quads;
 mod shape;
+#[cfg(test)]
+mod tests;
 mod words;
 
 pub use applying::apply;
