@@ -1,7 +1,7 @@
 -- Lanes, and what each instruction gives that computes lane by lane. SPU ISA 1.2, chapters 4 to 6, without floating point.
 -- A lane of w bytes is a number below 256 ^ w, its leftmost byte the highest. The numbers here have no bound: a lane of the
 -- result is the number modulo 256 ^ w.
-use Rattle.std.specs.Prelude.{◌≡◌, ℕ, ◌+◌, ◌-◌, ◌*◌, ◌/◌, ◌%◌, ◌^◌, Bool, List, [], ◌∷◌, slice_index, if◌then◌else◌, nat_lt, ◌==◌, bit_and, bit_or, bit_xor, count_ones, ℤ, ◌*ℤ◌, int_lt}
+use Rattle.std.specs.Prelude.{ℕ, ◌+◌, ◌-◌, ◌*◌, ◌/◌, ◌%◌, ◌^◌, Bool, List, [], ◌∷◌, slice_index, if◌then◌else◌, nat_lt, ◌==◌, bit_and, bit_or, bit_xor, count_ones, ℤ, ◌*ℤ◌, int_lt}
 use Rattle.std.specs.Int.{w8, w16, w32, cast_unsigned, cast_signed, rotate_left, leading_zeros, byte_at, byte_worth, sum_through}
 use Rattle.spu_isa.specs.declared.operation.Op.{Op}
 use Rattle.spu_isa.specs.declared.operation.Op.TheVariants as op

@@ -1,11 +1,11 @@
 -- What each instruction gives that does not compute lane by lane: whole quads, masks, insertion controls and choices of bytes.
 -- SPU ISA 1.2, chapters 4 to 6.
-use Rattle.std.specs.Prelude.{ℕ, ◌+◌, ◌-◌, ◌*◌, ◌/◌, ◌%◌, ◌^◌, List, ◌++◌, slice_index, if◌then◌else◌, nat_lt, ◌==◌, bit_or}
+use Rattle.std.specs.Prelude.{ℕ, ◌+◌, ◌-◌, ◌*◌, ◌/◌, ◌%◌, ◌^◌, List, slice_index, if◌then◌else◌, nat_lt, ◌==◌, bit_or}
 use Rattle.std.specs.Int.{w128, rotate_left, from_be_bytes, to_be_bytes, byte_at, sum_through}
 use Rattle.spu_word.specs.Bytes.{word_of, quad_of}
 use Rattle.spu_isa.specs.declared.operation.Op.{Op}
 use Rattle.spu_isa.specs.declared.operation.Op.TheVariants as op
-use Rattle.spu_exec.specs.Lanes.{sixteen, lane_of, lanes, ones_where}
+use Rattle.spu_exec.specs.Lanes.{sixteen, lane_of}
 
 -- a quad as a number, and the quad of a number modulo 2 ^ 128
 abbrev pub number_of : List ℕ → ℕ
@@ -34,13 +34,13 @@ chosen a b control =
 abbrev pub gathered : ℕ → List ℕ → ℕ
 gathered w a = sum_through (λ j. lane_of w a j % 2 * 2 ^ (16 / w - 1 - j)) (16 / w - 1)
 
--- each lane of w bytes all ones or all zeros by a bit of n, the leftmost by the highest of as many bits as there are lanes
+-- each lane of w bytes all ones or all zeros by a bit of n, the rightmost by the lowest: byte k is of lane (15 - k) / w from the right
 abbrev pub spread : ℕ → ℕ → List ℕ
-spread w n = lanes w (λ j. ones_where w (n / 2 ^ (16 / w - 1 - j) % 2 == 1))
+spread w n = sixteen (λ k. if n / 2 ^ ((15 - k) / w) % 2 == 1 then 255 else 0)
 
--- the control of `shufb` that puts w bytes, from byte `first` of ra on, at the place that the address n names, and keeps rb elsewhere
+-- the control of `shufb` that puts w bytes, from byte `first` of ra on, at a place of the quad, rounded down to w, and keeps rb elsewhere
 abbrev pub inserting : ℕ → ℕ → ℕ → List ℕ
-inserting w first n = sixteen (λ k. if k / w == n % 16 / w then first + k % w else 16 + k)
+inserting w first place = sixteen (λ k. if k / w == place / w then first + k % w else 16 + k)
 
 -- bit by bit with a number of w bytes in each lane
 abbrev pub or_lanes : ℕ → List ℕ → ℕ → List ℕ
@@ -74,12 +74,12 @@ whole_value op.Fsm i a b c t = spread 4 (word_of a 0)
 whole_value op.Fsmh i a b c t = spread 2 (word_of a 0)
 whole_value op.Fsmb i a b c t = spread 1 (word_of a 0)
 whole_value op.Fsmbi i a b c t = spread 1 i
-whole_value op.Cbd i a b c t = inserting 1 3 (word_of a 0 + i)
-whole_value op.Chd i a b c t = inserting 2 2 (word_of a 0 + i)
-whole_value op.Cwd i a b c t = inserting 4 0 (word_of a 0 + i)
-whole_value op.Cdd i a b c t = inserting 8 0 (word_of a 0 + i)
-whole_value op.Cbx i a b c t = inserting 1 3 (word_of a 0 + word_of b 0)
-whole_value op.Chx i a b c t = inserting 2 2 (word_of a 0 + word_of b 0)
-whole_value op.Cwx i a b c t = inserting 4 0 (word_of a 0 + word_of b 0)
-whole_value op.Cdx i a b c t = inserting 8 0 (word_of a 0 + word_of b 0)
+whole_value op.Cbd i a b c t = inserting 1 3 ((word_of a 0 + i) % 16)
+whole_value op.Chd i a b c t = inserting 2 2 ((word_of a 0 + i) % 16)
+whole_value op.Cwd i a b c t = inserting 4 0 ((word_of a 0 + i) % 16)
+whole_value op.Cdd i a b c t = inserting 8 0 ((word_of a 0 + i) % 16)
+whole_value op.Cbx i a b c t = inserting 1 3 ((word_of a 0 + word_of b 0) % 16)
+whole_value op.Chx i a b c t = inserting 2 2 ((word_of a 0 + word_of b 0) % 16)
+whole_value op.Cwx i a b c t = inserting 4 0 ((word_of a 0 + word_of b 0) % 16)
+whole_value op.Cdx i a b c t = inserting 8 0 ((word_of a 0 + word_of b 0) % 16)
 whole_value _ i a b c t = sixteen (λ k. 0)

@@ -1,0 +1,4 @@
+pub mod Layout
+pub mod Images
+pub mod Headline
+pub mod Linking

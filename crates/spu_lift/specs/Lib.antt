@@ -1,0 +1,2 @@
+pub mod StartCode
+pub mod First

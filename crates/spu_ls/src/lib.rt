@@ -1,0 +1,6 @@
+//! The local-store machine.
+#![tactic(auto)]
+
+pub mod ending;
+
+pub use ending::RunEnd;
