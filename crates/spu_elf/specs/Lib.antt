@@ -4,4 +4,3 @@ pub mod First
 pub mod FirstImage
 pub mod Lengths
 pub mod Views
-pub mod First
