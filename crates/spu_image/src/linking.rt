@@ -6,10 +6,21 @@ ghost use Rattle.spu_image.specs.declared.outcome.LinkFault.TheVariants.{NotBuil
 ghost use Rattle.spu_image.specs.Linking.{IsOneFirst, IsLinked};
 
 use crate::outcome::{LinkFault, LinkOptions, Linked};
-use spu_elf::{Object, first_image, is_first, write_exec};
+use spu_elf::{Object, Section, first_image, is_first, write_exec};
 use spu_lift::lift_first;
 use spu_word::Seq;
 use std::alloc::Global;
+
+/// The one section of an object of the first form.
+fn text_section(object: &Object) -> &Section
+    requires { IsFirst object.now }
+    ensures { object.now.sections ≡ result.now ∷ [] }
+{
+    match object.sections.as_slice() {
+        [section] => section,
+        _ => unreachable!(),
+    }
+}
 
 /// The image of an object of the first form.
 fn link_first(alloc: Global, object: &Object) -> Result<Linked, LinkFault>
@@ -17,15 +28,11 @@ fn link_first(alloc: Global, object: &Object) -> Result<Linked, LinkFault>
     ensures linked { IfOk result (IsLinked (object.now ∷ []) 16384) }
     ensures not_built { (k : ℕ) → result ≡ Err (NotBuilt k) → ⊥ }
 {
-    match object.sections.as_slice() {
-        [section] => {
-            let prog = lift_first(alloc, object)?;
-            let exec = first_image(alloc, section.bytes.as_slice())?;
-            let file = write_exec(alloc, &exec)?;
-            Ok(Linked { exec, file, prog })
-        }
-        _ => unreachable!(),
-    }
+    let section = text_section(object);
+    let prog = lift_first(alloc, object)?;
+    let exec = first_image(alloc, section.bytes.as_slice())?;
+    let file = write_exec(alloc, &exec)?;
+    Ok(Linked { exec, file, prog })
 }
 
 /// Links objects to an executable whose entry function and stack size the options give. For now it links one object,

@@ -1,0 +1,21 @@
+//! Laws of the symbolic machine.
+
+ghost use Rattle.std.specs.Prelude.{◌≡◌, ◌+◌, ◌∷◌, ℕ, List, Some};
+ghost use Rattle.spu_lift.specs.declared.program.Prog.{Prog};
+ghost use Rattle.spu_lift.specs.declared.program.SymInst.{SymInst};
+ghost use Rattle.spu_ideal.specs.Bytes.{Symbol, link_of, numbers, known_word};
+ghost use Rattle.spu_ideal.specs.Machine.{Sym, instruction_at, calls, returns, OpenCall};
+
+/// A call leaves the link of the next place in register 0.
+#[tactic(auto, using(crate::proofs::Calls::link_left))]
+pub fn call_leaves_link()
+    ensures { (p : Prog) (g : ℕ) (s : Sym) (y : SymInst) → instruction_at p g 0 ≡ Some y → (calls p g s).regs 0 ≡ link_of s.f (s.i + 1) }
+{
+}
+
+/// A call begins at the first word of the function that it names.
+#[tactic(auto, using(crate::proofs::Calls::call_enters))]
+pub fn call_enters_function()
+    ensures { (p : Prog) (g : ℕ) (s : Sym) (y : SymInst) → instruction_at p g 0 ≡ Some y → ((calls p g s).f ≡ g) × ((calls p g s).i ≡ 0) }
+{
+}
