@@ -29,12 +29,17 @@ refused text = made status.Refused None (text ++ 10 ∷ [])
 abbrev pub default_limit : ℕ
 default_limit = 16384
 
+abbrev pub count_line : List ℕ → ℕ → List ℕ
+count_line what count = what ++ codes " " ++ decimal count ++ codes "\n"
+
+abbrev pub share_line : List ℕ → ℕ → ℕ → List ℕ
+share_line what part whole = what ++ codes " " ++ decimal part ++ codes " of " ++ decimal whole ++ codes "\n"
+
 -- the summary of a flat image: how many functions it has beside the start code, the stack that they need, and where its
 -- code ends
 abbrev pub summary_of : ℕ → ℕ → ℕ → ℕ → List ℕ
 summary_of functions need limit top =
-    codes "image flat\nfunctions " ++ decimal functions ++ codes "\nstack " ++ decimal need ++ codes " of " ++ decimal limit
-    ++ codes "\ntop " ++ decimal top ++ codes " of " ++ decimal (262112 - limit) ++ codes "\n"
+    codes "image flat\n" ++ count_line (codes "functions") functions ++ share_line (codes "stack") need limit ++ share_line (codes "top") top (262112 - limit)
 
 abbrev pub summary : Prog → ℕ → ℕ → List ℕ
 summary p limit need = summary_of (length p.functions - 1) need limit (code_end p)

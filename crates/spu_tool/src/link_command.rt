@@ -1,7 +1,7 @@
 //! What `link` makes of an object's bytes.
 
-ghost use Rattle.std.specs.Prelude.{◌≡◌, ◌++◌, ◌≤◌, ◌∷◌, [], ℕ, codes, Some, None, IfOk};
-ghost use Rattle.spu_tool.specs.Makes.{HasRoot, MakesLink, made, refused, summary, summary_of, default_limit};
+ghost use Rattle.std.specs.Prelude.{◌≡◌, ◌++◌, ◌≤◌, ◌∷◌, [], ℕ, codes, string_bytes, Some, None, IfOk};
+ghost use Rattle.spu_tool.specs.Makes.{HasRoot, MakesLink, made, refused, summary, summary_of, count_line, share_line, default_limit};
 ghost use Rattle.spu_tool.specs.declared.status.Status.TheVariants as Status;
 
 use crate::made::Made;
@@ -50,14 +50,34 @@ fn alone(alloc: Global, object: Object) -> Result<Seq<Object>, OutOfMemory>
     Ok(objects)
 }
 
+fn count_line(alloc: Global, what: &str, count: usize) -> Result<String, OutOfMemory>
+    ensures { IfOk result (λ t. string_bytes t ≡ count_line what.now count) }
+{
+    Ok(format!(in alloc; "{what} {count}\n")?)
+}
+
+fn share_line(alloc: Global, what: &str, part: usize, whole: u32) -> Result<String, OutOfMemory>
+    ensures { IfOk result (λ t. string_bytes t ≡ share_line what.now part whole) }
+{
+    Ok(format!(in alloc; "{what} {part} of {whole}\n")?)
+}
+
 /// The summary of a flat image with this many functions beside the start code, whose code ends at `top`.
-fn summary(alloc: Global, functions: usize, need: u32, limit: u32, top: usize) -> Result<Bytes, OutOfMemory>
+fn summary(
+    alloc: Global,
+    functions: usize,
+    need: usize,
+    limit: u32,
+    top: usize,
+) -> Result<Bytes, OutOfMemory>
     requires { limit ≤ 262112 }
     ensures { IfOk result (λ t. t ≡ summary_of functions need limit top) }
 {
-    let room = 262_112 - limit;
-    let text = format!(in alloc; "image flat\nfunctions {functions}\nstack {need} of {limit}\ntop {top} of {room}\n")?;
-    Seq::copied(alloc, text.as_bytes())
+    let mut text = Seq::copied(alloc, b"image flat\n")?;
+    text.extend(count_line(alloc, "functions", functions)?.as_bytes())?;
+    text.extend(share_line(alloc, "stack", need, limit)?.as_bytes())?;
+    text.extend(share_line(alloc, "top", top, 262_112 - limit)?.as_bytes())?;
+    Ok(text)
 }
 
 /// The summary of what was linked.
