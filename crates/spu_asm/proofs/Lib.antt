@@ -4,3 +4,4 @@ pub mod OperandLemmas
 pub mod LineLemmas
 pub mod FormLemmas
 pub mod ObjectLemmas
+pub mod OneAnswer

@@ -3,7 +3,8 @@
 ghost use Rattle.std.specs.Prelude.{◌≡◌, ◌<◌, ◌≤◌, ◌^◌, ℕ, List, [], ◌∷◌, ◌++◌, IsTrue, ◌↔◌, MatchOption, MatchResult, OnOk, IfOk, length};
 ghost use Rattle.spu_word.specs.Bytes.{be_digits};
 ghost use Rattle.spu_elf.specs.First.{object_of};
-ghost use Rattle.spu_asm.specs.Forms.{ended, first_lines, last_line, text_section, IsFaultAt};
+ghost use Rattle.spu_elf.specs.declared.objects.Object.{Object};
+ghost use Rattle.spu_asm.specs.Forms.{ended, first_lines, last_line, text_section, Assembles, IsFaultAt};
 ghost use Rattle.spu_asm.specs.Answers.{Answers, AnswersBehind};
 ghost use Rattle.spu_asm.specs.Parts.{Lacks, Parts};
 
@@ -138,6 +139,11 @@ pub fn assemble(alloc: Global, text: &[u8]) -> Result<Object, AsmFault>
     let code = code_of(alloc, rest)?;
     Ok(object_of(alloc, code)?)
 }
+
+/// No text has both an object and a faulty line.
+pub fn one_answer()
+    ensures { (text : List ℕ) (o : Object) (line : ℕ) → Assembles text o → IsFaultAt text line → ⊥ }
+{}
 
 #[cfg(test)]
 mod tests {

@@ -8,5 +8,5 @@ mod numerals;
 mod operands;
 mod parts;
 
-pub use assembler::assemble;
+pub use assembler::{assemble, one_answer};
 pub use faults::{AsmFault, AsmKind};

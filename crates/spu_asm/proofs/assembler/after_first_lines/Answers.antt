@@ -1,4 +1,4 @@
-use Rattle.std.proofs.Common.{◌≡◌, List, [], ◌∷◌, codes, refl}
+use Rattle.std.proofs.Common.{[], ◌∷◌, codes, refl}
 use Rattle.spu_asm.proofs.FormLemmas.{head_fault, behind_one, behind_two, behind_three, behind_four}
 use Rattle.spu_asm.proofs.assembler.after_first_lines.Goals as goal
 

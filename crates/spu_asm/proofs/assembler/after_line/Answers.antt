@@ -1,4 +1,3 @@
-use Rattle.std.proofs.Common.{◌≡◌, sym, rules, subst}
 use Rattle.spu_asm.proofs.PartsLemmas.{no_parts, one_front}
 use Rattle.spu_asm.proofs.assembler.after_line.Goals as goal
 

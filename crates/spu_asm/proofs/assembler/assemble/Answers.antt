@@ -1,4 +1,4 @@
-use Rattle.std.proofs.Common.{◌≡◌, ◌<◌, ◌^◌, arith}
+use Rattle.std.proofs.Common.{arith}
 use Rattle.spu_asm.proofs.ObjectLemmas.{small_code, assembled}
 use Rattle.spu_asm.proofs.assembler.assemble.Goals as goal
 

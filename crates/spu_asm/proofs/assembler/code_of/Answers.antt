@@ -1,5 +1,4 @@
-use Rattle.std.proofs.Common.{◌≡◌, ◌<◌, ◌≤◌, List, [], ◌∷◌, ◌++◌, sym, rules, subst, arith, refl, ap}
-use Rattle.std.proofs.lemmas.Bool.Decides.{nat_tests}
+use Rattle.std.proofs.Common.{rules, arith, refl}
 use Rattle.spu_asm.proofs.FormLemmas.{read_start, read_more, code_done, line_fault, end_fault, behind_fault, empty_of, not_empty}
 use Rattle.spu_asm.proofs.assembler.code_of.Goals as goal
 use Rattle.spu_asm.proofs.assembler.code_of.Goals.{else-count-gt0-via-then-count-gt0+else-is_last, else-count-gt0-via-else-count-gt0}

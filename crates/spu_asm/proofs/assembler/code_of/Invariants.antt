@@ -1,4 +1,4 @@
-use Rattle.std.proofs.Common.{◌≡◌, ◌≤◌, length}
+use Rattle.std.proofs.Common.{◌≤◌, length}
 use Rattle.spu_asm.specs.Answers.{HasRead}
 use Rattle.spu_asm.proofs.assembler.code_of.Given as goal
 

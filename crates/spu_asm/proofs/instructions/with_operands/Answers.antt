@@ -1,4 +1,3 @@
-use Rattle.std.proofs.Common.{◌≡◌}
 use Rattle.spu_asm.proofs.LineLemmas.{mnemonic_first}
 use Rattle.spu_asm.proofs.instructions.with_operands.Goals as goal
 

@@ -1,4 +1,4 @@
-use Rattle.std.proofs.Common.{◌≡◌, ◌<◌, ◌^◌, ◌-◌, ℕ, ℤ, negsuc, List, Some, None, suc, sym, subst, ap, ◌∙◌, arith, rules}
+use Rattle.std.proofs.Common.{◌≡◌, ◌-◌, ℕ, ℤ, negsuc, Some, suc, sym, ap, ◌∙◌, arith, rules}
 use Rattle.spu_asm.proofs.NumeralLemmas.{negative_of}
 use Rattle.spu_asm.proofs.numerals.integer.Goals as goal
 

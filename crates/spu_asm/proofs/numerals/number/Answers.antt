@@ -1,4 +1,4 @@
-use Rattle.std.proofs.Common.{◌≡◌, ◌<◌, ◌^◌, ℕ, List, sym, subst, ◌∙◌, arith, rules}
+use Rattle.std.proofs.Common.{◌∙◌, arith, rules}
 use Rattle.spu_asm.specs.Numerals.{IsDecimalText}
 use Rattle.spu_asm.proofs.NumeralLemmas.{decimal_text, decimal_utf8, number_some, number_only}
 use Rattle.spu_asm.proofs.numerals.number.Goals as goal

@@ -1,4 +1,3 @@
-use Rattle.std.proofs.Common.{◌≡◌, sym, Some, None}
 use Rattle.spu_asm.proofs.OperandLemmas.{no_comma, before_comma}
 use Rattle.spu_asm.proofs.operands.register_and.Goals as goal
 

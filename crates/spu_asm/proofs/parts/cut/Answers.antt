@@ -1,4 +1,4 @@
-use Rattle.std.proofs.Common.{◌≡◌, sym, rules}
+use Rattle.std.proofs.Common.{sym}
 use Rattle.spu_asm.proofs.PartsLemmas.{parts_at, lacks_all}
 use Rattle.spu_asm.proofs.parts.cut.Goals as goal
 

@@ -1,0 +1,12 @@
+//! Assembly text as tokens, by SPU Assembly Language: lines, statements, words, numbers, quoted text and marks.
+#![tactic(auto)]
+
+mod lexemes;
+mod lines;
+mod numbers;
+mod scanning;
+#[cfg(test)]
+mod tests;
+
+pub use lexemes::{TextFault, Token, TokenKind};
+pub use lines::tokens;
