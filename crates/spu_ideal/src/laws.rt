@@ -10,12 +10,10 @@ ghost use Rattle.spu_ideal.specs.Machine.{Sym, instruction_at, calls, returns, O
 #[tactic(auto, using(crate::proofs::Calls::link_left))]
 pub fn call_leaves_link()
     ensures { (p : Prog) (g : ℕ) (s : Sym) (y : SymInst) → instruction_at p g 0 ≡ Some y → (calls p g s).regs 0 ≡ link_of s.f (s.i + 1) }
-{
-}
+{}
 
 /// A call begins at the first word of the function that it names.
 #[tactic(auto, using(crate::proofs::Calls::call_enters))]
 pub fn call_enters_function()
     ensures { (p : Prog) (g : ℕ) (s : Sym) (y : SymInst) → instruction_at p g 0 ≡ Some y → ((calls p g s).f ≡ g) × ((calls p g s).i ≡ 0) }
-{
-}
+{}

@@ -138,8 +138,8 @@ read_agree p o source k s q h t j lt r = agrees_number p (symbol_at s j) (get_or
 -- a byte of the value depends on the bytes that it reads alone
 pub record KeepsLaneLaw (x : Inst) : Type 0 where
   pub law : (a b c t a' b' c' t' : List ℕ) (k : ℕ) → k < 16
-    → Agree x.op FromRa k a a' → Agree x.op FromRb k b b' → Agree x.op FromRc k c c' → Agree x.op FromRt k t t'
-    → slice_index (value x a b c t) k ≡ slice_index (value x a' b' c' t') k
+      → Agree x.op FromRa k a a' → Agree x.op FromRb k b b' → Agree x.op FromRc k c c' → Agree x.op FromRt k t t'
+      → slice_index (value x a b c t) k ≡ slice_index (value x a' b' c' t') k
 
 pub byte_agrees : (p : Prog) (x : Inst) → KeepsLaneLaw x → (sa sb sc st : List Symbol) (a b c t : List ℕ) → AgreesQuad p sa a → AgreesQuad p sb b → AgreesQuad p sc c → AgreesQuad p st t → (k : ℕ) → k < 16 → Agrees p (computed_byte x sa sb sc st k) (get_or (value x a b c t) k 0)
 unfolding computed_byte
@@ -149,14 +149,14 @@ byte_agrees p x lane sa sb sc st a b c t ha hb hc ht k lt =
     let kc : Bool = are_known (reads x.op FromRc k) sc 16 in
     let kt : Bool = are_known (reads x.op FromRt k) st 16 in
     cond_both (ka && (kb && (kc && kt))) _ _ (λ s. Agrees p s (get_or (value x a b c t) k 0))
-      (λ all.
-        let one = and_parts ka (kb && (kc && kt)) all in
-        let two = and_parts kb (kc && kt) one.1 in
-        let three = and_parts kc kt two.1 in
-        lane.law a b c t (map number_of sa) (map number_of sb) (map number_of sc) (map number_of st) k lt
-          (read_agree p x.op FromRa k sa a ha one.0) (read_agree p x.op FromRb k sb b hb two.0)
-          (read_agree p x.op FromRc k sc c hc three.0) (read_agree p x.op FromRt k st t ht three.1))
-      (λ some. tt)
+    (λ all.
+    let one = and_parts ka (kb && (kc && kt)) all in
+    let two = and_parts kb (kc && kt) one.1 in
+    let three = and_parts kc kt two.1 in
+    lane.law a b c t (map number_of sa) (map number_of sb) (map number_of sc) (map number_of st) k lt
+    (read_agree p x.op FromRa k sa a ha one.0) (read_agree p x.op FromRb k sb b hb two.0)
+    (read_agree p x.op FromRc k sc c hc three.0) (read_agree p x.op FromRt k st t ht three.1))
+    (λ some. tt)
 
 pub agrees_computed : (p : Prog) (x : Inst) → KeepsLaneLaw x → (sa sb sc st : List Symbol) (a b c t : List ℕ) → AgreesQuad p sa a → AgreesQuad p sb b → AgreesQuad p sc c → AgreesQuad p st t → AgreesQuad p (computed x sa sb sc st) (value x a b c t)
 agrees_computed p x lane sa sb sc st a b c t ha hb hc ht =
@@ -234,19 +234,19 @@ moved_agrees p (Part l k) (Num zero) given a b v e ha hb hc =
 moved_agrees p (Part l k) (Num (suc n)) given a b v e ha hb hc = hc
 moved_agrees p (Part l k) (Part m j) given a b v e ha hb hc =
     cond_both (same_label l m && (k == j)) _ _ (λ s. Agrees p s v)
-      (λ t.
-        let q = and_parts (same_label l m) (k == j) t in
-        let lt = code_byte p l k in
-        let same : b ≡ a = hb ∙ ap₂ (λ n i. get_or (code p n) i 0) (sym (same_is l m q.0)) (sym (eqb-true k j q.1)) ∙ sym ha in
-        let o : bit_or a b ≡ a = ap (λ z. bit_or a z) same ∙ or_self a in
-        let r : bit_or a b % 256 ≡ a = ap (λ z. z % 256) o ∙ (omega (arith, ha, lt)) in
-        e ∙ r ∙ ha)
-      (λ t. tt)
+    (λ t.
+    let q = and_parts (same_label l m) (k == j) t in
+    let lt = code_byte p l k in
+    let same : b ≡ a = hb ∙ ap₂ (λ n i. get_or (code p n) i 0) (sym (same_is l m q.0)) (sym (eqb-true k j q.1)) ∙ sym ha in
+    let o : bit_or a b ≡ a = ap (λ z. bit_or a z) same ∙ or_self a in
+    let r : bit_or a b % 256 ≡ a = ap (λ z. z % 256) o ∙ (omega (arith, ha, lt)) in
+    e ∙ r ∙ ha)
+    (λ t. tt)
 moved_agrees p (Part l k) Unknown given a b v e ha hb hc = hc
 moved_agrees p Unknown sb given a b v e ha hb hc = hc
 
 pub agrees_or : (p : Prog) (x : Inst) → x.op ≡ op.Or → KeepsLaneLaw x → (sa sb sc st : List Symbol) (a b c t : List ℕ) → AgreesQuad p sa a → AgreesQuad p sb b → AgreesQuad p sc c → AgreesQuad p st t → AgreesQuad p (or_of x sa sb sc st) (value x a b c t)
 agrees_or p x is lane sa sb sc st a b c t ha hb hc ht =
     agrees_sixteen p (λ k. moved_by_or (symbol_at sa k) (symbol_at sb k) (computed_byte x sa sb sc st k)) (value x a b c t)
-      (λ k lt. moved_agrees p (symbol_at sa k) (symbol_at sb k) (computed_byte x sa sb sc st k) (get_or a k 0) (get_or b k 0) (get_or (value x a b c t) k 0)
-        (or_value x a b c t k is lt) (ha k lt) (hb k lt) (byte_agrees p x lane sa sb sc st a b c t ha hb hc ht k lt))
+    (λ k lt. moved_agrees p (symbol_at sa k) (symbol_at sb k) (computed_byte x sa sb sc st k) (get_or a k 0) (get_or b k 0) (get_or (value x a b c t) k 0)
+    (or_value x a b c t k is lt) (ha k lt) (hb k lt) (byte_agrees p x lane sa sb sc st a b c t ha hb hc ht k lt))

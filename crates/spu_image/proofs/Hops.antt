@@ -268,7 +268,7 @@ module _ (name : List ℕ) (size : ℕ) (words : List SymInst) (limit : ℕ) (x 
     sends_hop (Some n) w k inside =
         let lengths : (length m.output == 65536) ≡ (length s.output == 65536) = ap (λ ws. length ws == 65536) inv.matched.output in
         subst (λ b. Inv (sends p (Some n) s) (cond b (machine.ends ending.OutboxFull m) (record m { output = m.output ++ w ∷ []; pc = code_mask (m.pc + 4); steps = m.steps + 1 }))) (sym lengths)
-          (by_room (length s.output == 65536) inside)
+        (by_room (length s.output == 65536) inside)
       where
         by_room : (b : Bool) → (IsOutside (cond b (ends ideal.OutboxFull s) (goes p s.f (s.i + 1) s (record s { output = s.output ++ n ∷ [] }))).ended → ⊥)
             → Inv (cond b (ends ideal.OutboxFull s) (goes p s.f (s.i + 1) s (record s { output = s.output ++ n ∷ [] }))) (cond b (machine.ends ending.OutboxFull m) (record m { output = m.output ++ w ∷ []; pc = code_mask (m.pc + 4); steps = m.steps + 1 }))
@@ -308,18 +308,18 @@ module _ (name : List ℕ) (size : ℕ) (words : List SymInst) (limit : ℕ) (x 
     wrch_hop z is channel inside =
         let symbolic : acts_plain op.Wrch p z s ≡ sends p (known_word (s.regs z.rt) 0) s = cond-true (z.ra == 28) _ _ (eq-eqb z.ra 28 channel) in
         let real : machine.acts kind.ChannelOp z (code_mask (m.pc + 4)) m ≡ machine.sends (word_of (m.regs z.rt) 0) (code_mask (m.pc + 4)) m =
-            ap (λ o. machine.uses_channel o z (code_mask (m.pc + 4)) m) is ∙ ap (λ n. machine.writes n (word_of (m.regs z.rt) 0) (code_mask (m.pc + 4)) m) channel in
+        ap (λ o. machine.uses_channel o z (code_mask (m.pc + 4)) m) is ∙ ap (λ n. machine.writes n (word_of (m.regs z.rt) 0) (code_mask (m.pc + 4)) m) channel in
         subst (λ t. Inv t (machine.acts kind.ChannelOp z (code_mask (m.pc + 4)) m)) (sym symbolic)
         (subst (Inv (sends p (known_word (s.regs z.rt) 0) s)) (sym real)
         (sends_hop (known_word (s.regs z.rt) 0) (word_of (m.regs z.rt) 0) (λ n. word_is p (s.regs z.rt) (m.regs z.rt) 0 n (omega arith) (inv.matched.regs z.rt))
-          (subst (λ t. IsOutside t.ended → ⊥) symbolic inside)))
+        (subst (λ t. IsOutside t.ended → ⊥) symbolic inside)))
 
     bi_hop : (z : Inst) → z.op ≡ op.Bi → z.ra ≡ 0 → (IsOutside (acts_plain op.Bi p z s).ended → ⊥) → Inv (acts_plain op.Bi p z s) (machine.acts kind.Indirect z (code_mask (m.pc + 4)) m)
     bi_hop z is zero_register inside =
         let symbolic : acts_plain op.Bi p z s ≡ returns p s.calls s = cond-true (z.ra == 0) _ _ (eq-eqb z.ra 0 zero_register) in
         let real : machine.acts kind.Indirect z (code_mask (m.pc + 4)) m ≡ machine.goes (code_mask (word_of (m.regs 0) 0)) m =
-            ap (λ o. cond (taken_of o (m.regs z.rt)) (machine.goes (place_of o (immediate 4 z.imm) m.pc (word_of (m.regs z.ra) 0) (word_of (m.regs z.rb) 0)) m) (machine.goes (code_mask (m.pc + 4)) m)) is
-            ∙ ap (λ r. machine.goes (code_mask (word_of (m.regs r) 0)) m) zero_register in
+        ap (λ o. cond (taken_of o (m.regs z.rt)) (machine.goes (place_of o (immediate 4 z.imm) m.pc (word_of (m.regs z.ra) 0) (word_of (m.regs z.rb) 0)) m) (machine.goes (code_mask (m.pc + 4)) m)) is
+        ∙ ap (λ r. machine.goes (code_mask (word_of (m.regs r) 0)) m) zero_register in
         subst (λ t. Inv t (machine.acts kind.Indirect z (code_mask (m.pc + 4)) m)) (sym symbolic)
         (subst (Inv (returns p s.calls s)) (sym real) (returns_hop (subst (λ t. IsOutside t.ended → ⊥) symbolic inside)))
 
@@ -494,7 +494,7 @@ module _ (name : List ℕ) (size : ℕ) (words : List SymInst) (limit : ℕ) (x 
       let word : fetch m0.store m0.pc ≡ 0x33fffe01 = ap (fetch (loaded x.segments)) pc ∙ word_of_start 0 (omega arith) ∙ first_word in
       let quad : load m0.store (quad_mask (m0.pc + 4 * immediate 4 (negsuc 3))) ≡ quad_of 262112 limit 0 0 = ap (λ k. load (loaded x.segments) (quad_mask (k + 4 * immediate 4 (negsuc 3)))) pc ∙ start_quad in
       let real : machine.step m0 ≡ machine.sets 1 (load m0.store (quad_mask (m0.pc + 4 * immediate 4 (negsuc 3)))) (code_mask (m0.pc + 4)) m0 =
-          machine_step m0 (of_register op.Lqr 1 (negsuc 3)) refl (subst (λ w. Decodes w (of_register op.Lqr 1 (negsuc 3))) (sym word) first_is) in
+      machine_step m0 (of_register op.Lqr 1 (negsuc 3)) refl (subst (λ w. Decodes w (of_register op.Lqr 1 (negsuc 3))) (sym word) first_is) in
       subst (Inv (start p limit mail)) (sym (real ∙ ap (λ q. machine.sets 1 q (code_mask (m0.pc + 4)) m0) quad)) (record {
         matched = record {
           place = ap (λ k. code_mask (k + 4)) pc;
@@ -550,10 +550,10 @@ module _ (name : List ℕ) (size : ℕ) (words : List SymInst) (limit : ℕ) (x 
 
   pub headline_of : Headline p limit 0 x
   headline_of = record {
-      each = λ mail n inside.
+    each = λ mail n inside.
         let inv = all_hops mail n inside in
         record { matched = inv.matched; meant = meant _ _ inv; pointer = (let e : word_of ((hops x mail n).regs 1) 0 ≡ 262112 = ap (λ q. word_of q 0) inv.pointer ∙ top in omega (arith, e)) };
-      apart =
+    apart =
         let few = given.few in
         let room = given.room in
         (omega arith, omega arith, (omega arith, omega (arith, total_is), (omega arith, omega arith, (omega (arith, total_is), omega arith, omega arith))));

@@ -45,12 +45,12 @@ first_word s f words is i y e =
 
 premises : (s : Section) (f : IsFirstSection s) (words : List SymInst) → IsCodeOf s.bytes s.size words → Premises s.name s.size words 16384 (image_of s.bytes)
 premises s f words is = record {
-    count = is.count;
-    few = f.most;
-    room = omega arith;
-    plain = λ i y e. (is.each i y e).plain;
-    first = first_word s f words is;
-    image = first_image_is s.name s.size words s.bytes f.filled is;
+  count = is.count;
+  few = f.most;
+  room = omega arith;
+  plain = λ i y e. (is.each i y e).plain;
+  first = first_word s f words is;
+  image = first_image_is s.name s.size words s.bytes f.filled is;
 }
 
 pub linked_is : (o : Object) (first : IsFirst o) (p : Prog) (stands : StandsFor o p) (x : Exec) (file : List ℕ) → x ≡ image_of stands.section.bytes → file ≡ spell_exec x → IsLinked (o ∷ []) 16384 (record { exec = x; file = file; prog = p })

@@ -15,17 +15,17 @@ last_or_before [] x y zero e = let same : x ≡ y = cc in inr (refl, same)
 last_or_before [] x y (suc k) e = absurd (none_some y e)
 last_or_before (z ∷ xs) x y zero e = inl e
 last_or_before (z ∷ xs) x y (suc k) e = elim (last_or_before xs x y k e) [
-    | inl before ↦ inl before
-    | inr last ↦ inr (ap suc last.0, last.1)
-  ]
+  | inl before ↦ inl before
+  | inr last ↦ inr (ap suc last.0, last.1)
+]
 
 pub one_more : (bytes : List ℕ) (i : ℕ) (code : List SymInst) (s : SymInst) → IsCodeOf bytes (4 * i) code → IsPlainWord (be_number bytes (4 * i)) s → IsCodeOf bytes (4 * (i + 1)) (code ++ s ∷ [])
 one_more bytes i code s so_far is = record {
-    count = omega (arith, length-append code (s ∷ []), so_far.count);
-    each = λ k y e. elim (last_or_before code s y k e) [
-      | inl before ↦ so_far.each k y before
-      | inr last ↦
-          let at : i ≡ k = omega (arith, so_far.count, last.0) in
-          subst (IsPlainWord (be_number bytes (4 * k))) last.1 (subst (λ j. IsPlainWord (be_number bytes (4 * j)) s) at is)
-    ];
+  count = omega (arith, length-append code (s ∷ []), so_far.count);
+  each = λ k y e. elim (last_or_before code s y k e) [
+    | inl before ↦ so_far.each k y before
+    | inr last ↦
+        let at : i ≡ k = omega (arith, so_far.count, last.0) in
+        subst (IsPlainWord (be_number bytes (4 * k))) last.1 (subst (λ j. IsPlainWord (be_number bytes (4 * j)) s) at is)
+  ];
 }

@@ -5,4 +5,6 @@ pub mod first;
 pub mod program;
 
 pub use first::lift_first;
-pub use program::{CodeSection, Ear, Function, Global_, Label, Operand, Part, Prog, SymInst, WordLabel};
+pub use program::{
+    CodeSection, Ear, Function, Global_, Label, Operand, Part, Prog, SymInst, WordLabel,
+};

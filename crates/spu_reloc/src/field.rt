@@ -109,12 +109,27 @@ mod tests {
 
     #[test]
     fn patches_each_kind(rt: HostRuntime) -> Result<(), Fail> {
-        assert_eq!(rt; patch(0x3300_0000, RelocKind::Rel16, 200_160, 160), 0x3361_a800);
+        assert_eq!(rt;
+            patch(0x3300_0000, RelocKind::Rel16, 200_160, 160),
+            0x3361_a800
+        );
         assert_eq!(rt; patch(0x3300_0000, RelocKind::Rel16, 160, 148), 0x3300_0180);
-        assert_eq!(rt; patch(0x4200_0002, RelocKind::Addr18, 0x2_1234, 0), 0x4310_9a02);
-        assert_eq!(rt; patch(0x4100_0003, RelocKind::Addr16Hi, 0x0002_1234, 0), 0x4100_0103);
-        assert_eq!(rt; patch(0x6080_0003, RelocKind::Addr16Lo, 0x0002_1234, 0), 0x6089_1a03);
-        assert_eq!(rt; patch(0x3000_0003, RelocKind::Addr16, 0x1000, 0), 0x3002_0003);
+        assert_eq!(rt;
+            patch(0x4200_0002, RelocKind::Addr18, 0x2_1234, 0),
+            0x4310_9a02
+        );
+        assert_eq!(rt;
+            patch(0x4100_0003, RelocKind::Addr16Hi, 0x0002_1234, 0),
+            0x4100_0103
+        );
+        assert_eq!(rt;
+            patch(0x6080_0003, RelocKind::Addr16Lo, 0x0002_1234, 0),
+            0x6089_1a03
+        );
+        assert_eq!(rt;
+            patch(0x3000_0003, RelocKind::Addr16, 0x1000, 0),
+            0x3002_0003
+        );
         assert_eq!(rt; patch(7, RelocKind::Addr32, 0x1234_5678, 0), 0x1234_5678);
         assert_eq!(rt; kind_of(7), Some(RelocKind::Rel16));
         assert_eq!(rt; kind_of(8), None);

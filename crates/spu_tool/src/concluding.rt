@@ -22,17 +22,10 @@ pub fn put<S: Sink>(status: Status, text: &[u8], out: &mut S) -> Status
 }
 
 /// Writes the output file of a command where it has one, and then puts its text.
-pub fn conclude<F: Files, S: Sink>(
-    made: &Made,
-    output: &str,
-    files: &mut F,
-    out: &mut S,
-) -> Status
-    ensures {
-        Concludes made.now output.now result
+pub fn conclude<F: Files, S: Sink>(made: &Made, output: &str, files: &mut F, out: &mut S) -> Status
+    ensures { Concludes made.now output.now result
         (record { held = F.held files.old; faults = F.faults files.old; last = F.last files.old; written = S.written out.old; sink_faults = S.faults out.old })
-        (record { held = F.held files.new; faults = F.faults files.new; last = F.last files.new; written = S.written out.new; sink_faults = S.faults out.new })
-    }
+        (record { held = F.held files.new; faults = F.faults files.new; last = F.last files.new; written = S.written out.new; sink_faults = S.faults out.new }) }
 {
     if let Some(file) = &made.file {
         match files.write(output, file.as_slice()) {

@@ -12,9 +12,8 @@ use crate::status::{Status, status_number};
 use crate::tool::tool;
 use spu_io::{DiskFiles, StdSink};
 use std::alloc::Global;
-use std::env;
-use std::io;
 use std::process::ExitCode;
+use std::{env, io};
 
 /// The words without the program's name. Words that aren't all UTF-8 are no words at all.
 fn words_of(rt: &HostRuntime) -> Option<Vec<String>> {

@@ -20,11 +20,9 @@ fn link_files<F: Files, S: Sink>(
     files: &mut F,
     out: &mut S,
 ) -> Status
-    ensures {
-        Outcome input.now output.now (MakesLink input.now) result
+    ensures { Outcome input.now output.now (MakesLink input.now) result
         (record { held = F.held files.old; faults = F.faults files.old; last = F.last files.old; written = S.written out.old; sink_faults = S.faults out.old })
-        (record { held = F.held files.new; faults = F.faults files.new; last = F.last files.new; written = S.written out.new; sink_faults = S.faults out.new })
-    }
+        (record { held = F.held files.new; faults = F.faults files.new; last = F.last files.new; written = S.written out.new; sink_faults = S.faults out.new }) }
 {
     let bytes = match files.read(alloc, input) {
         Ok(bytes) => bytes,
@@ -54,16 +52,20 @@ pub fn tool<F: Files, S: Sink>(
     files: &mut F,
     out: &mut S,
 ) -> Status
-    ensures {
-        OutcomeOf (map string_bytes words.now.items) result
+    ensures { OutcomeOf (map string_bytes words.now.items) result
         (record { held = F.held files.old; faults = F.faults files.old; last = F.last files.old; written = S.written out.old; sink_faults = S.faults out.old })
-        (record { held = F.held files.new; faults = F.faults files.new; last = F.last files.new; written = S.written out.new; sink_faults = S.faults out.new })
-    }
+        (record { held = F.held files.new; faults = F.faults files.new; last = F.last files.new; written = S.written out.new; sink_faults = S.faults out.new }) }
 {
     match word_fault(words) {
         Some(n) => put_fault(alloc, n, out),
         None => match words.as_slice() {
-            [_, output, input, ..] => link_files(alloc, output.as_str(), input.as_str(), files, out),
+            [_, output, input, ..] => link_files(
+                alloc,
+                output.as_str(),
+                input.as_str(),
+                files,
+                out,
+            ),
             _ => unreachable!(),
         },
     }

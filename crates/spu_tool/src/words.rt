@@ -32,7 +32,11 @@ fn second_fault(words: &[String]) -> Option<usize>
 {
     match words {
         [] => Some(3),
-        [input, rest @ ..] => if is_bad(input.as_str()) { Some(3) } else { third_fault(rest) },
+        [input, rest @ ..] => if is_bad(input.as_str()) {
+            Some(3)
+        } else {
+            third_fault(rest)
+        },
     }
 }
 
