@@ -1,1 +1,4 @@
+pub mod Firsts
+pub mod Growing
+pub mod Mapped
 pub mod Seeing

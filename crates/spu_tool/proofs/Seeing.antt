@@ -1,14 +1,15 @@
 -- What is seen before a command ends is what was seen before it read its input.
-use Rattle.std.proofs.Common.{◌≡◌, ℕ, List, Option, Some, None, [], ◌∷◌, refl, sym, ap, ◌∙◌, subst, cond, true, false}
-use Rattle.std.specs.Prelude.{slice_index_or, codes}
-use Rattle.std.specs.Str.{bytes_eq}
+use Rattle.std.proofs.Common.{◌≡◌, ℕ, List, Option, Some, None, [], ◌∷◌, sym, subst}
 use Rattle.spu_io.specs.Outside.{Names, Last}
 use Rattle.spu_tool.specs.declared.made.Made.{Made}
 use Rattle.spu_tool.specs.declared.status.Status.{Status}
-use Rattle.spu_tool.specs.declared.words.Verb.TheVariants.{Link}
-use Rattle.spu_tool.specs.Words.{operand, operands_fault, second_fault, third_fault, is_bad, verb_named, word_fault, command_of}
-use Rattle.spu_tool.specs.Makes.{MakesLink}
-use Rattle.spu_tool.specs.Outcomes.{Seen, Concludes, Outcome, OutcomeBy, OutcomeOf}
+use Rattle.spu_tool.specs.declared.words.Verb.{Verb}
+use Rattle.spu_tool.specs.declared.words.Command.{Command}
+use Rattle.spu_tool.specs.declared.words.Command.TheVariants as command
+use Rattle.spu_tool.specs.Words.{operand, verb_named, word_fault, AsksAfter, Asks}
+use Rattle.spu_tool.specs.Makes.{MakesAssemble, MakesLink, MakesRun}
+use Rattle.spu_tool.specs.Commands.{input_name, output_name, MakesBy}
+use Rattle.spu_tool.specs.Outcomes.{Seen, Concludes, Outcome, OutcomeAfter, OutcomeBy, OutcomeOf}
 
 abbrev pub seen : Option Names → ℕ → Last → Option (List ℕ) → ℕ → Seen
 seen held faults last written sink_faults = record { held = held; faults = faults; last = last; written = written; sink_faults = sink_faults }
@@ -20,12 +21,21 @@ same_start m output answer held held' faults faults' last last' written sink_fau
     (subst (λ x. Concludes m output answer (seen held' x last written sink_faults) b) ef
     (subst (λ x. Concludes m output answer (seen held' faults' x written sink_faults) b) el h))
 
--- words without a fault are `link` and two operands
-pub link_outcome : (ws : List (List ℕ)) (output input : List ℕ) (answer : Status) (a b : Seen) → word_fault ws ≡ None
-    → slice_index_or ws 1 [] ≡ output → slice_index_or ws 2 [] ≡ input → Outcome input output (MakesLink input) answer a b → OutcomeOf ws answer a b
-link_outcome [] output input answer a b e eo ei h = cc
-link_outcome (w ∷ ws) output input answer a b e eo ei h =
-    elim (bytes_eq w (codes "link")) as (λ t. cond t (operands_fault ws) (Some 1) ≡ None → OutcomeBy (cond t (operands_fault ws) (Some 1)) (cond t (Some Link) None) (w ∷ ws) answer a b) [
-      | true ↦ λ f. subst (λ n. OutcomeBy n (Some Link) (w ∷ ws) answer a b) (sym f) (subst (λ o. Outcome (operand 1 (w ∷ ws)) o (MakesLink (operand 1 (w ∷ ws))) answer a b) (sym eo) (subst (λ i. Outcome i output (MakesLink i) answer a b) (sym ei) h))
-      | false ↦ λ f. cc
-    ] e
+-- by what the words ask for
+after_verb : (verb : Option Verb) (rest : List (List ℕ)) (c : Command) (answer : Status) (a b : Seen) → AsksAfter verb rest c
+    → Outcome (input_name c) (output_name c) (MakesBy c) answer a b → OutcomeAfter verb rest answer a b
+after_verb verb rest (command.Assemble input output) answer a b asks h =
+    subst (λ v. OutcomeAfter v rest answer a b) (sym asks.verb_is)
+    (subst (λ o. Outcome (operand 0 rest) o MakesAssemble answer a b) asks.output_is (subst (λ i. Outcome i output.now MakesAssemble answer a b) asks.input_is h))
+after_verb verb rest (command.Link output input) answer a b asks h =
+    subst (λ v. OutcomeAfter v rest answer a b) (sym asks.verb_is)
+    (subst (λ o. Outcome (operand 1 rest) o (MakesLink (operand 1 rest)) answer a b) asks.output_is (subst (λ i. Outcome i output.now (MakesLink i) answer a b) asks.input_is h))
+after_verb verb rest (command.Run input steps) answer a b asks h =
+    subst (λ v. OutcomeAfter v rest answer a b) (sym asks.verb_is)
+    (subst (λ n. Outcome (operand 0 rest) [] (MakesRun (operand 0 rest) n) answer a b) asks.steps_is (subst (λ i. Outcome i [] (MakesRun i steps) answer a b) asks.input_is h))
+
+pub outcome_of : (words : List (List ℕ)) (c : Command) (answer : Status) (a b : Seen) → word_fault words ≡ None → Asks words c
+    → Outcome (input_name c) (output_name c) (MakesBy c) answer a b → OutcomeOf words answer a b
+outcome_of [] c answer a b e asks h = absurd asks
+outcome_of (word ∷ words) c answer a b e asks h =
+    subst (λ n. OutcomeBy n (word ∷ words) answer a b) (sym e) (after_verb (verb_named word) words c answer a b asks h)

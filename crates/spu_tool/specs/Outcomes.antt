@@ -4,10 +4,10 @@
 use Rattle.std.specs.Prelude.{◌≡◌, ℕ, ◌++◌, ◌∷◌, [], ◌⊎◌, List, Option, Some, None, codes}
 use Rattle.std.specs.Fmt.{decimal}
 use Rattle.spu_io.specs.Outside.{Names, Last, Read, Write, Rose, ReadOf, Wrote, Spoiled, Gained, GainedPrefix}
-use Rattle.spu_tool.specs.Words.{operand, word_fault, command_of}
-use Rattle.spu_tool.specs.Makes.{Makes}
+use Rattle.spu_tool.specs.Words.{verb_named, operand, steps_of, word_fault}
+use Rattle.spu_tool.specs.Makes.{MakesAssemble, MakesLink, MakesRun}
 use Rattle.spu_tool.specs.declared.words.Verb.{Verb}
-use Rattle.spu_tool.specs.declared.words.Verb.TheVariants.{Link}
+use Rattle.spu_tool.specs.declared.words.Verb.TheVariants.{Assemble, Link, Run}
 use Rattle.spu_tool.specs.declared.made.Made.{Made}
 use Rattle.spu_tool.specs.declared.status.Status.{Status}
 use Rattle.spu_tool.specs.declared.status.Status.TheVariants as status
@@ -107,13 +107,6 @@ pub data Outcome (input output : List ℕ) (makes : List ℕ → Made → Type 0
   early : IsEarly answer a b → Outcome input output makes answer a b
   concluded : (m : Made) → HasMade input makes a m → Concludes m output answer a b → Outcome input output makes answer a b
 
--- the names of the input and of the output file
-abbrev pub input_of : Verb → List (List ℕ) → List ℕ
-input_of Link words = operand 1 words
-
-abbrev pub output_of : Verb → List (List ℕ) → List ℕ
-output_of Link words = operand 0 words
-
 -- ---- a faulty word
 
 -- a put of this text with this status: done, failed after a prefix, or out of memory after a prefix
@@ -132,11 +125,18 @@ pub record IsFaulty (n : ℕ) (answer : Status) (a b : Seen) : Type 0 where
   pub files : FilesWell a b
   pub put : Puts status.Words (words_line n) answer a.written b.written a.sink_faults b.sink_faults
 
--- by the words
-abbrev pub OutcomeBy : Option ℕ → Option Verb → List (List ℕ) → Status → Seen → Seen → Type 0
-OutcomeBy (Some n) verb words answer a b = IsFaulty n answer a b
-OutcomeBy None (Some verb) words answer a b = Outcome (input_of verb words) (output_of verb words) (Makes verb words) answer a b
-OutcomeBy None None words answer a b = ⊥
+-- ---- by the words: the command, its operands, and what it makes
+
+abbrev pub OutcomeAfter : Option Verb → List (List ℕ) → Status → Seen → Seen → Type 0
+OutcomeAfter (Some Assemble) words answer a b = Outcome (operand 0 words) (operand 1 words) MakesAssemble answer a b
+OutcomeAfter (Some Link) words answer a b = Outcome (operand 1 words) (operand 0 words) (MakesLink (operand 1 words)) answer a b
+OutcomeAfter (Some Run) words answer a b = Outcome (operand 0 words) [] (MakesRun (operand 0 words) (steps_of words)) answer a b
+OutcomeAfter None words answer a b = ⊥
+
+abbrev pub OutcomeBy : Option ℕ → List (List ℕ) → Status → Seen → Seen → Type 0
+OutcomeBy (Some n) words answer a b = IsFaulty n answer a b
+OutcomeBy None [] answer a b = ⊥
+OutcomeBy None (word ∷ words) answer a b = OutcomeAfter (verb_named word) words answer a b
 
 abbrev pub OutcomeOf : List (List ℕ) → Status → Seen → Seen → Type 0
-OutcomeOf words answer a b = OutcomeBy (word_fault words) (command_of words) words answer a b
+OutcomeOf words answer a b = OutcomeBy (word_fault words) words answer a b

@@ -1,11 +1,12 @@
 //! What `link` makes of an object's bytes.
 
-ghost use Rattle.std.specs.Prelude.{◌≡◌, ◌++◌, ◌≤◌, ◌∷◌, [], ℕ, codes, string_bytes, Some, None, IfOk};
-ghost use Rattle.spu_tool.specs.Makes.{HasRoot, MakesLink, made, refused, summary, summary_of, count_line, share_line, default_limit};
+ghost use Rattle.std.specs.Prelude.{◌≡◌, ◌++◌, ◌≤◌, ◌∷◌, [], ℕ, codes, Some, None, IfOk};
+ghost use Rattle.spu_tool.specs.Makes.{HasRoot, MakesLink, made, refused, summary, summary_of, default_limit};
 ghost use Rattle.spu_tool.specs.declared.status.Status.TheVariants as Status;
 
 use crate::made::Made;
 use crate::status::Status;
+use crate::texts::{count_line, refusal, share_line};
 use spu_elf::{ElfFault, Object, read_object};
 use spu_image::{LinkFault, LinkOptions, Linked, link};
 use spu_word::{Bytes, OutOfMemory, Seq};
@@ -13,17 +14,6 @@ use std::alloc::Global;
 
 /// The stack's size, if the words don't say it.
 const DEFAULT_LIMIT: u32 = 16_384;
-
-/// What is made of input that has a fault: the fault's line.
-pub fn refusal(alloc: Global, line: &str) -> Result<Made, OutOfMemory>
-    ensures { IfOk result (λ m. m ≡ record { status = Status.Refused; file = None; text = line.now }) }
-{
-    Ok(Made {
-        status: Status::Refused,
-        file: None,
-        text: Seq::copied(alloc, line.as_bytes())?,
-    })
-}
 
 /// What is made of bytes that spell no object of the first form.
 fn not_built(alloc: Global, name: &str) -> Result<Made, OutOfMemory>
@@ -50,18 +40,6 @@ fn alone(alloc: Global, object: Object) -> Result<Seq<Object>, OutOfMemory>
     Ok(objects)
 }
 
-fn count_line(alloc: Global, what: &str, count: usize) -> Result<String, OutOfMemory>
-    ensures { IfOk result (λ t. string_bytes t ≡ count_line what.now count) }
-{
-    Ok(format!(in alloc; "{what} {count}\n")?)
-}
-
-fn share_line(alloc: Global, what: &str, part: usize, whole: u32) -> Result<String, OutOfMemory>
-    ensures { IfOk result (λ t. string_bytes t ≡ share_line what.now part whole) }
-{
-    Ok(format!(in alloc; "{what} {part} of {whole}\n")?)
-}
-
 /// The summary of a flat image with this many functions beside the start code, whose code ends at `top`.
 fn summary(
     alloc: Global,
@@ -74,9 +52,9 @@ fn summary(
     ensures { IfOk result (λ t. t ≡ summary_of functions need limit top) }
 {
     let mut text = Seq::copied(alloc, b"image flat\n")?;
-    text.extend(count_line(alloc, "functions", functions)?.as_bytes())?;
-    text.extend(share_line(alloc, "stack", need, limit)?.as_bytes())?;
-    text.extend(share_line(alloc, "top", top, 262_112 - limit)?.as_bytes())?;
+    text.extend(count_line(alloc, "functions", functions as u64)?.as_bytes())?;
+    text.extend(share_line(alloc, "stack", need as u64, u64::from(limit))?.as_bytes())?;
+    text.extend(share_line(alloc, "top", top as u64, u64::from(262_112 - limit))?.as_bytes())?;
     Ok(text)
 }
 

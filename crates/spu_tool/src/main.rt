@@ -1,10 +1,14 @@
-//! The tool: an object is linked to an executable.
+//! The tool: texts are assembled, objects are linked, and executables are run.
 #![tactic(auto)]
 
+mod assemble_command;
 mod concluding;
 mod link_command;
 mod made;
+mod numbers;
+mod run_command;
 mod status;
+mod texts;
 mod tool;
 mod words;
 

@@ -1,36 +1,71 @@
 //! The top call.
 
-ghost use Rattle.std.specs.Prelude.{◌≡◌, map, string_bytes};
+ghost use Rattle.std.specs.Prelude.{◌≡◌, map, string_bytes, IfOk};
 ghost use Rattle.spu_tool.specs.Outcomes.{Seen, Outcome, OutcomeOf, Puts, words_line};
-ghost use Rattle.spu_tool.specs.Makes.{MakesLink};
+ghost use Rattle.spu_tool.specs.Commands.{input_name, output_name, MakesBy};
 ghost use Rattle.spu_tool.specs.declared.status.Status.TheVariants as Status;
 
+use crate::assemble_command::assemble_command;
 use crate::concluding::{conclude, put};
 use crate::link_command::link_command;
+use crate::made::Made;
+use crate::run_command::run_command;
 use crate::status::Status;
-use crate::words::word_fault;
+use crate::words::{Command, parse};
 use spu_io::{FileFault, Files, Sink};
+use spu_word::OutOfMemory;
 use std::alloc::Global;
 
-/// `link OUT IN`
-fn link_files<F: Files, S: Sink>(
+/// The name of a command's input file.
+fn input_name<'a>(command: Command<'a>) -> &'a str
+    ensures { result.now ≡ input_name command }
+{
+    match command {
+        Command::Assemble { input, .. } | Command::Link { input, .. } | Command::Run { input, .. } => input,
+    }
+}
+
+/// The name of its output file; empty where it has none.
+fn output_name<'a>(command: Command<'a>) -> &'a str
+    ensures { result.now ≡ output_name command }
+{
+    match command {
+        Command::Assemble { output, .. } | Command::Link { output, .. } => output,
+        Command::Run { .. } => "",
+    }
+}
+
+/// What it makes of the bytes of its input.
+fn make(alloc: Global, command: Command<'_>, bytes: &[u8]) -> Result<Made, OutOfMemory>
+    ensures { IfOk result (MakesBy command bytes.now) }
+{
+    match command {
+        Command::Assemble { .. } => assemble_command(alloc, bytes),
+        Command::Link { input, .. } => link_command(alloc, input, bytes),
+        Command::Run { input, steps } => run_command(alloc, input, bytes, steps),
+    }
+}
+
+/// Reads the input of a command, makes what it says, and writes and puts that.
+fn carry_out<F: Files, S: Sink>(
     alloc: Global,
-    output: &str,
-    input: &str,
+    command: Command<'_>,
     files: &mut F,
     out: &mut S,
 ) -> Status
-    ensures { Outcome input.now output.now (MakesLink input.now) result
+    ensures {
+        Outcome (input_name command) (output_name command) (MakesBy command) result
         (record { held = F.held files.old; faults = F.faults files.old; last = F.last files.old; written = S.written out.old; sink_faults = S.faults out.old })
-        (record { held = F.held files.new; faults = F.faults files.new; last = F.last files.new; written = S.written out.new; sink_faults = S.faults out.new }) }
+        (record { held = F.held files.new; faults = F.faults files.new; last = F.last files.new; written = S.written out.new; sink_faults = S.faults out.new })
+    }
 {
-    let bytes = match files.read(alloc, input) {
+    let bytes = match files.read(alloc, input_name(command)) {
         Ok(bytes) => bytes,
         Err(FileFault::Failed) => return Status::ReadFault,
         Err(FileFault::OutOfMemory) => return Status::OutOfMemory,
     };
-    match link_command(alloc, input, bytes.as_slice()) {
-        Ok(made) => conclude(&made, output, files, out),
+    match make(alloc, command, bytes.as_slice()) {
+        Ok(made) => conclude(&made, output_name(command), files, out),
         Err(_) => Status::OutOfMemory,
     }
 }
@@ -52,21 +87,14 @@ pub fn tool<F: Files, S: Sink>(
     files: &mut F,
     out: &mut S,
 ) -> Status
-    ensures { OutcomeOf (map string_bytes words.now.items) result
+    ensures {
+        OutcomeOf (map string_bytes words.now.items) result
         (record { held = F.held files.old; faults = F.faults files.old; last = F.last files.old; written = S.written out.old; sink_faults = S.faults out.old })
-        (record { held = F.held files.new; faults = F.faults files.new; last = F.last files.new; written = S.written out.new; sink_faults = S.faults out.new }) }
+        (record { held = F.held files.new; faults = F.faults files.new; last = F.last files.new; written = S.written out.new; sink_faults = S.faults out.new })
+    }
 {
-    match word_fault(words) {
-        Some(n) => put_fault(alloc, n, out),
-        None => match words.as_slice() {
-            [_, output, input, ..] => link_files(
-                alloc,
-                output.as_str(),
-                input.as_str(),
-                files,
-                out,
-            ),
-            _ => unreachable!(),
-        },
+    match parse(words) {
+        Ok(command) => carry_out(alloc, command, files, out),
+        Err(n) => put_fault(alloc, n, out),
     }
 }

@@ -1,0 +1,44 @@
+//! Numbers on a command line.
+
+ghost use Rattle.std.specs.Prelude.{◌≡◌, ◌≤◌, drop};
+ghost use Rattle.spu_tool.specs.Numbers.{digits_number, with_digit, bounded, number_within};
+
+// The number that digits write, if it is at most the bound.
+fn digits_within(radix: u32, digits: &[u8], most: u64) -> Option<u64>
+    requires least { 2 ≤ radix }
+    requires greatest { radix ≤ 36 }
+    ensures { result ≡ bounded most (digits_number radix digits.now) }
+{
+    if digits.is_empty() {
+        return None;
+    }
+    let mut number = 0;
+    for &digit in digits {
+        number = with_digit(radix, number, digit, most)?;
+    }
+    Some(number)
+}
+
+// The number with one more digit, if it is at most the bound.
+fn with_digit(radix: u32, number: u64, digit: u8, most: u64) -> Option<u64>
+    requires least { 2 ≤ radix }
+    requires greatest { radix ≤ 36 }
+    ensures { result ≡ bounded most (with_digit radix number digit) }
+{
+    let digit = char::from(digit).to_digit(radix)?;
+    let longer = number
+        .checked_mul(u64::from(radix))?
+        .checked_add(u64::from(digit))?;
+    if longer <= most { Some(longer) } else { None }
+}
+
+/// The number that a text writes, in decimal digits, or in hexadecimal digits after `0x`. None where
+/// it writes none, and where that is above the bound, however long it is.
+pub fn number_within(text: &[u8], most: u64) -> Option<u64>
+    ensures { result ≡ number_within most text.now }
+{
+    match text {
+        [b'0', b'x', digits @ ..] => digits_within(16, digits, most),
+        _ => digits_within(10, text, most),
+    }
+}
