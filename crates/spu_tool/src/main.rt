@@ -5,6 +5,8 @@ mod concluding;
 mod link_command;
 mod made;
 mod status;
+#[cfg(test)]
+mod tests;
 mod tool;
 mod words;
 
