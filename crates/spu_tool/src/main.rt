@@ -8,6 +8,8 @@ mod made;
 mod numbers;
 mod run_command;
 mod status;
+#[cfg(test)]
+mod tests;
 mod texts;
 mod tool;
 mod words;

@@ -1,0 +1,129 @@
+//! Whole calls of `link one.elf one.o` over files and a sink in memory.
+
+use crate::status::Status;
+use crate::tool::tool;
+use spu_io::{MemFiles, MemSink};
+use spu_word::{OutOfMemory, Seq};
+use std::alloc::Global;
+use std::test::Fail;
+
+// The object of `il $3,5; wrch 28,$3; bi $0`.
+const OBJECT: [u8; 348] = [
+    127, 69, 76, 70, 1, 2, 1, 0, 0, 0, 0, 0, 0, 0, 0, 0, 0, 1, 0, 23, 0, 0, 0, 1, 0, 0, 0, 0, 0, 0,
+    0, 0, 0, 0, 0, 148, 0, 0, 0, 0, 0, 52, 0, 0, 0, 0, 0, 40, 0, 5, 0, 4, 0, 0, 0, 0, 0, 0, 0, 0,
+    0, 0, 0, 0, 64, 128, 2, 131, 33, 160, 14, 3, 53, 0, 0, 0, 0, 0, 0, 0, 0, 0, 0, 0, 0, 0, 0, 0,
+    0, 0, 0, 0, 0, 0, 0, 1, 0, 0, 0, 0, 0, 0, 0, 12, 18, 0, 0, 1, 0, 109, 97, 105, 110, 0, 0, 46,
+    116, 101, 120, 116, 0, 46, 115, 121, 109, 116, 97, 98, 0, 46, 115, 116, 114, 116, 97, 98, 0,
+    46, 115, 104, 115, 116, 114, 116, 97, 98, 0, 0, 0, 0, 0, 0, 0, 0, 0, 0, 0, 0, 0, 0, 0, 0, 0, 0,
+    0, 0, 0, 0, 0, 0, 0, 0, 0, 0, 0, 0, 0, 0, 0, 0, 0, 0, 0, 0, 0, 0, 0, 0, 0, 0, 0, 1, 0, 0, 0, 1,
+    0, 0, 0, 6, 0, 0, 0, 0, 0, 0, 0, 64, 0, 0, 0, 12, 0, 0, 0, 0, 0, 0, 0, 0, 0, 0, 0, 16, 0, 0, 0,
+    0, 0, 0, 0, 7, 0, 0, 0, 2, 0, 0, 0, 0, 0, 0, 0, 0, 0, 0, 0, 76, 0, 0, 0, 32, 0, 0, 0, 3, 0, 0,
+    0, 1, 0, 0, 0, 4, 0, 0, 0, 16, 0, 0, 0, 15, 0, 0, 0, 3, 0, 0, 0, 0, 0, 0, 0, 0, 0, 0, 0, 108,
+    0, 0, 0, 6, 0, 0, 0, 0, 0, 0, 0, 0, 0, 0, 0, 1, 0, 0, 0, 0, 0, 0, 0, 23, 0, 0, 0, 3, 0, 0, 0,
+    0, 0, 0, 0, 0, 0, 0, 0, 114, 0, 0, 0, 33, 0, 0, 0, 0, 0, 0, 0, 0, 0, 0, 0, 1, 0, 0, 0, 0,
+];
+
+const SUMMARY: &[u8] = b"image flat\nfunctions 1\nstack 0 of 16384\ntop 176 of 245728\n";
+
+// How a call ended: its status, the size of the output file where there is one, and the text.
+#[derive(Drop)]
+struct Ran {
+    status: Status,
+    file: Option<usize>,
+    text: Seq<u8>,
+}
+
+fn numbers(alloc: Global, calls: &[u64]) -> Result<Seq<u64>, OutOfMemory> {
+    let mut all = Seq::new(alloc);
+    for n in calls {
+        all.push(*n)?;
+    }
+    Ok(all)
+}
+
+fn words_of(alloc: Global, words: &[&str]) -> Result<Vec<String>, OutOfMemory> {
+    let mut all = Vec::new(alloc);
+    for word in words {
+        all.push(String::from_str(alloc, word)?)?;
+    }
+    Ok(all)
+}
+
+// A call on an object, where the listed calls of the files and of the sink fail.
+fn called(
+    alloc: Global,
+    words: &[&str],
+    object: &[u8],
+    file_fails: &[u64],
+    sink_fails: &[u64],
+) -> Result<Ran, OutOfMemory> {
+    let mut files = MemFiles::new(alloc, numbers(alloc, file_fails)?);
+    files.hold("one.o", object)?;
+    let mut out = MemSink::new(alloc, numbers(alloc, sink_fails)?);
+    let words = words_of(alloc, words)?;
+    let status = tool(alloc, &words, &mut files, &mut out);
+    let file = files.get("one.elf").map(|bytes| bytes.len());
+    Ok(Ran {
+        status,
+        file,
+        text: Seq::copied(alloc, out.as_slice())?,
+    })
+}
+
+const LINK: [&str; 3] = ["link", "one.elf", "one.o"];
+
+#[test]
+fn links(rt: HostRuntime) -> Result<(), Fail> {
+    let ran = called(rt.alloc(), &LINK, &OBJECT, &[], &[])
+        .ok()
+        .ok_or("memory")?;
+    assert_eq!(rt; ran.status, Status::Ok);
+    assert_eq!(rt; ran.file, Some(448));
+    assert_eq!(rt; ran.text.as_slice(), SUMMARY);
+    Ok(())
+}
+
+#[test]
+fn refuses_what_is_not_of_the_form(rt: HostRuntime) -> Result<(), Fail> {
+    let mut object = OBJECT;
+    object[75] = 128;
+    let ran = called(rt.alloc(), &LINK, &object, &[], &[])
+        .ok()
+        .ok_or("memory")?;
+    assert_eq!(rt; ran.status, Status::Refused);
+    assert_eq!(rt; ran.file, None);
+    assert_eq!(rt; ran.text.as_slice(), b"L0 NotBuilt one.o\n".as_slice());
+    Ok(())
+}
+
+#[test]
+fn tells_which_call_failed(rt: HostRuntime) -> Result<(), Fail> {
+    let ran = called(rt.alloc(), &LINK, &OBJECT, &[1], &[])
+        .ok()
+        .ok_or("memory")?;
+    assert_eq!(rt; ran.status, Status::ReadFault);
+    assert_eq!(rt; ran.file, None);
+    assert!(rt; ran.text.is_empty());
+    let ran = called(rt.alloc(), &LINK, &OBJECT, &[2], &[])
+        .ok()
+        .ok_or("memory")?;
+    assert_eq!(rt; ran.status, Status::WriteFault);
+    assert_eq!(rt; ran.file, None);
+    assert!(rt; ran.text.is_empty());
+    let ran = called(rt.alloc(), &LINK, &OBJECT, &[], &[1])
+        .ok()
+        .ok_or("memory")?;
+    assert_eq!(rt; ran.status, Status::WriteFault);
+    assert_eq!(rt; ran.file, Some(448));
+    Ok(())
+}
+
+#[test]
+fn names_the_faulty_word(rt: HostRuntime) -> Result<(), Fail> {
+    let ran = called(rt.alloc(), &["link", "o"], &OBJECT, &[], &[])
+        .ok()
+        .ok_or("memory")?;
+    assert_eq!(rt; ran.status, Status::Words);
+    assert_eq!(rt; ran.text.as_slice(), b"words 3\n".as_slice());
+    Ok(())
+}
