@@ -4,3 +4,4 @@ pub mod Words
 pub mod Fields
 pub mod Running
 pub mod Blank
+pub mod Starting

@@ -1,5 +1,5 @@
 -- The state that a machine shows.
-use Rattle.std.specs.Prelude.{◌≡◌, ℕ, ◌<◌, ◌==◌, ◌||◌, ◌&&◌, nat_le, nat_lt, ◌+◌, replicate, Bool, if◌then◌else◌, List, [], drop, slice_index_or, Option, Some, None}
+use Rattle.std.specs.Prelude.{ℕ, ◌<◌, ◌==◌, ◌||◌, ◌&&◌, nat_le, nat_lt, ◌+◌, replicate, Bool, if◌then◌else◌, List, [], drop, slice_index_or, None}
 use Rattle.spu_word.specs.declared.big_endian.Quad.{Quad}
 use Rattle.spu_isa.specs.declared.instruction.Inst.{Inst}
 use Rattle.spu_exec.specs.Places.{code_mask}

@@ -1,6 +1,6 @@
 //! Machines that are loaded with an executable.
 
-ghost use Rattle.std.specs.Prelude.{◌≡◌, ◌≢◌, ◌↔◌, ℕ, ◌+◌, ◌^◌, ◌<◌, List, [], length, not, Some, Err, IfOk};
+ghost use Rattle.std.specs.Prelude.{◌≡◌, ◌≢◌, ◌↔◌, ℕ, ◌+◌, ◌^◌, ◌<◌, List, [], length, not, Some, None, Err, IfOk};
 ghost use Rattle.std.specs.Option.{option_copied};
 ghost use Rattle.spu_word.specs.declared.load.LoadFault.{LoadFault};
 ghost use Rattle.spu_word.specs.declared.load.LoadFault.TheVariants.{UnresolvedName, AreasOverlap, AreaRange, SegmentRange};
@@ -11,7 +11,7 @@ ghost use Rattle.spu_ls.specs.Loading.{IsAdmitted, is_in_store, first_outside};
 use crate::stepping::Machine;
 use spu_elf::{Exec, Segment};
 use spu_word::{Inputs, LoadFault};
-use std::alloc::Global;
+use std::alloc::{AllocError, Global};
 
 /// Whether a segment begins at a multiple of 16 and ends inside the local store.
 fn is_in_store(segment: &Segment) -> bool
@@ -31,17 +31,25 @@ impl Machine {
     ghost use Rattle.spu_ls.specs.View.{state_of};
     ghost use Rattle.spu_ls.specs.Start.{start};
 
+    /// A machine at the start of an executable that fits.
+    #[tactic(auto, using(crate::proofs::Starting::started_with, crate::proofs::Starting::started_without))]
+    fn started(alloc: Global, x: &Exec, mail: &[u32]) -> Result<Machine, AllocError>
+        requires { first_outside x.now.segments ≡ None }
+        ensures { IfOk result (λ m. state_of m ≡ start x.now mail.now) }
+    {
+        let mut machine = Machine::blank(alloc, x.entry, mail)?;
+        if let Some(root) = x.segments.get(0) {
+            machine.place(root.address, root.bytes.as_slice());
+        }
+        Ok(machine)
+    }
+
     /// A machine at the start of an executable, whose inbound mailbox holds the words of mail. `file` is the executable's
     /// file. For now there are no areas.
     ///
     /// `SegmentRange(k)` exactly where segment k is the first, of all, that doesn't begin at a multiple of 16 or that ends
     /// outside the local store.
-    pub fn load(
-        alloc: Global,
-        x: &Exec,
-        file: &[u8],
-        inputs: &Inputs,
-    ) -> Result<Machine, LoadFault>
+    pub fn load(alloc: Global, x: &Exec, file: &[u8], inputs: &Inputs) -> Result<Machine, LoadFault>
         requires valid { IsValidExec x.now }
         requires file { file.now ≡ spell_exec x.now }
         requires admitted { IsAdmitted inputs.now }
@@ -53,13 +61,8 @@ impl Machine {
         if let Some(k) = first_outside(x.segments.as_slice()) {
             return Err(LoadFault::SegmentRange(k as u32));
         }
-        match Machine::blank(alloc, x.entry, inputs.mail.as_slice()) {
-            Ok(mut machine) => {
-                if let Some(root) = x.segments.get(0) {
-                    machine.place(root.address, root.bytes.as_slice());
-                }
-                Ok(machine)
-            }
+        match Machine::started(alloc, x, inputs.mail.as_slice()) {
+            Ok(machine) => Ok(machine),
             Err(_) => Err(LoadFault::OutOfMemory),
         }
     }

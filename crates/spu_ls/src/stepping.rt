@@ -426,8 +426,8 @@ impl Machine {
         ensures budget { (state_of self.new).steps ≤ (state_of self.old).steps + budget }
     {
         for _ in 0..budget {
-            if self.ended.is_some() {
-                break;
+            if let Some(end) = self.ended {
+                return end;
             }
             self.advance();
         }
