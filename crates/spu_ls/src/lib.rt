@@ -1,6 +1,13 @@
-//! The local-store machine.
+//! The local-store machine: the local store, registers and channels of an SPU, and the steps that it makes.
 #![tactic(auto)]
 
-pub mod ending;
+mod channels;
+mod ending;
+mod loading;
+mod local_store;
+mod stepping;
+#[cfg(test)]
+mod tests;
 
-pub use ending::RunEnd;
+pub use ending::{RunEnd, Tick};
+pub use stepping::Machine;
