@@ -21,6 +21,12 @@ same_start m output answer held held' faults faults' last last' written sink_fau
     (subst (λ x. Concludes m output answer (seen held' x last written sink_faults) b) ef
     (subst (λ x. Concludes m output answer (seen held' faults' x written sink_faults) b) el h))
 
+-- the same under another spelling of the output's name
+pub same_command : (m : Made) (output output' : List ℕ) (answer : Status) (held held' : Option Names) (faults faults' : ℕ) (last last' : Last) (written : Option (List ℕ)) (sink_faults : ℕ) (b : Seen)
+    → output' ≡ output → held' ≡ held → faults' ≡ faults → last' ≡ last → Concludes m output' answer (seen held' faults' last' written sink_faults) b → Concludes m output answer (seen held faults last written sink_faults) b
+same_command m output output' answer held held' faults faults' last last' written sink_faults b eo eh ef el h =
+    subst (λ o. Concludes m o answer (seen held faults last written sink_faults) b) eo (same_start m output' answer held held' faults faults' last last' written sink_faults b eh ef el h)
+
 -- by what the words ask for
 after_verb : (verb : Option Verb) (rest : List (List ℕ)) (c : Command) (answer : Status) (a b : Seen) → AsksAfter verb rest c
     → Outcome (input_name c) (output_name c) (MakesBy c) answer a b → OutcomeAfter verb rest answer a b

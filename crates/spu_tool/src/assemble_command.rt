@@ -21,7 +21,6 @@ fn not_built(alloc: Global, number: u32) -> Result<Made, OutOfMemory>
 }
 
 /// What is made of a text: its object, or the first line that the form doesn't allow.
-#[tactic(auto, using(spu_elf::proofs::FirstValid::first_is_valid))]
 pub fn assemble_command(alloc: Global, text: &[u8]) -> Result<Made, OutOfMemory>
     ensures { IfOk result (MakesAssemble text.now) }
 {

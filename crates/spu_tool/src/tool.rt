@@ -18,16 +18,18 @@ use std::alloc::Global;
 
 /// The name of a command's input file.
 fn input_name<'a>(command: Command<'a>) -> &'a str
-    ensures { result.now ≡ input_name command }
+    ensures { result.now ≡ input_name command.entry }
 {
     match command {
-        Command::Assemble { input, .. } | Command::Link { input, .. } | Command::Run { input, .. } => input,
+        Command::Assemble { input, .. }
+        | Command::Link { input, .. }
+        | Command::Run { input, .. } => input,
     }
 }
 
 /// The name of its output file; empty where it has none.
 fn output_name<'a>(command: Command<'a>) -> &'a str
-    ensures { result.now ≡ output_name command }
+    ensures { result.now ≡ output_name command.entry }
 {
     match command {
         Command::Assemble { output, .. } | Command::Link { output, .. } => output,
@@ -37,7 +39,7 @@ fn output_name<'a>(command: Command<'a>) -> &'a str
 
 /// What it makes of the bytes of its input.
 fn make(alloc: Global, command: Command<'_>, bytes: &[u8]) -> Result<Made, OutOfMemory>
-    ensures { IfOk result (MakesBy command bytes.now) }
+    ensures { IfOk result (MakesBy command.entry bytes.now) }
 {
     match command {
         Command::Assemble { .. } => assemble_command(alloc, bytes),
@@ -53,11 +55,9 @@ fn carry_out<F: Files, S: Sink>(
     files: &mut F,
     out: &mut S,
 ) -> Status
-    ensures {
-        Outcome (input_name command) (output_name command) (MakesBy command) result
+    ensures { Outcome (input_name command.entry) (output_name command.entry) (MakesBy command.entry) result
         (record { held = F.held files.old; faults = F.faults files.old; last = F.last files.old; written = S.written out.old; sink_faults = S.faults out.old })
-        (record { held = F.held files.new; faults = F.faults files.new; last = F.last files.new; written = S.written out.new; sink_faults = S.faults out.new })
-    }
+        (record { held = F.held files.new; faults = F.faults files.new; last = F.last files.new; written = S.written out.new; sink_faults = S.faults out.new }) }
 {
     let bytes = match files.read(alloc, input_name(command)) {
         Ok(bytes) => bytes,
@@ -87,11 +87,9 @@ pub fn tool<F: Files, S: Sink>(
     files: &mut F,
     out: &mut S,
 ) -> Status
-    ensures {
-        OutcomeOf (map string_bytes words.now.items) result
+    ensures { OutcomeOf (map string_bytes words.now.items) result
         (record { held = F.held files.old; faults = F.faults files.old; last = F.last files.old; written = S.written out.old; sink_faults = S.faults out.old })
-        (record { held = F.held files.new; faults = F.faults files.new; last = F.last files.new; written = S.written out.new; sink_faults = S.faults out.new })
-    }
+        (record { held = F.held files.new; faults = F.faults files.new; last = F.last files.new; written = S.written out.new; sink_faults = S.faults out.new }) }
 {
     match parse(words) {
         Ok(command) => carry_out(alloc, command, files, out),
