@@ -50,3 +50,8 @@ first_fits (t ∷ ts) s bytes e at same =
     let inside = and_parts (t.address % 16 == 0) (nat_le (t.address + length t.bytes) 262144) (first_is ts t e) in
     let small : t.address + length t.bytes ≤ 262144 = leb-true (t.address + length t.bytes) 262144 inside.1 in
     subst (λ (b : List ℕ). s.address + length b ≤ 262144) (sym same) (subst (λ (u : Segment). u.address + length u.bytes ≤ 262144) is small)
+
+-- a start has made no step
+pub no_steps : (x : Exec) (mail : List ℕ) (s : State) → s ≡ start x mail → s.steps ≡ 0
+unfolding start
+no_steps x mail s e = ap (λ (t : State). t.steps) e

@@ -404,6 +404,7 @@ impl Machine {
         requires { (state_of self.old).steps + 1 < 2 ^ 64 }
         ensures state { state_of self.new ≡ step (state_of self.old) }
         ensures tick { result ≡ tick_of (state_of self.new).ended }
+        ensures count { (state_of self.new).steps ≤ (state_of self.old).steps + 1 }
     {
         match self.ended {
             Some(end) => Tick::Ended(end),
