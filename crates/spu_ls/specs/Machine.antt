@@ -1,4 +1,5 @@
--- The local-store machine: its state, and one step of it (SPU ISA 1.2; channels as the Cell's SPU has them). A step
+-- The local-store machine: its state, and one step of it (SPU ISA 1.2). Channels
+-- have the numbers that the Cell's SPU gives them; what they do here is this project's own rule. A step
 -- reads the word at pc, decodes it by the instruction table, and does what the instruction says. A step that ends the
 -- run changes only the count of steps and the end, and a state that has ended stays.
 use Rattle.std.specs.Prelude.{ℕ, zero, suc, ◌+◌, ◌==◌, nat_lt, if◌then◌else◌, Bool, true, false, List, [], ◌∷◌, ◌++◌, length, Option, Some, None}

@@ -1,3 +1,5 @@
+ghost use Rattle.std.specs.Prelude.{◌≤◌, length};
+
 use crate::{TextFault, Token, TokenKind, tokens};
 use std::alloc::Global;
 use std::test::Fail;
@@ -30,7 +32,9 @@ fn kinds_and_places(rt: HostRuntime) -> Result<(), Fail> {
 }
 
 /// The fault of a text.
-fn fault(alloc: Global, text: &[u8]) -> Option<TextFault> {
+fn fault(alloc: Global, text: &[u8]) -> Option<TextFault>
+    requires { length text.now ≤ 4194304 }
+{
     tokens(alloc, text).err()
 }
 

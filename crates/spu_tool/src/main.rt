@@ -14,6 +14,10 @@ mod texts;
 mod tool;
 mod words;
 
+ghost use Rattle.std.specs.Prelude.{◌≡◌};
+ghost use Rattle.std.specs.Process.{exit_status};
+ghost use Rattle.spu_tool.specs.Statuses.{number_of};
+
 use crate::status::{Status, status_number};
 use crate::tool::tool;
 use spu_io::{DiskFiles, StdSink};
@@ -39,6 +43,13 @@ fn words_of(rt: &HostRuntime) -> Option<Vec<String>> {
     }
 }
 
+/// What the program ends with.
+fn exit_code(status: Status) -> ExitCode
+    ensures { exit_status result ≡ number_of status }
+{
+    ExitCode::from(status_number(status))
+}
+
 fn main(rt: HostRuntime) -> ExitCode {
     let status = match words_of(&rt) {
         Some(words) => {
@@ -49,5 +60,5 @@ fn main(rt: HostRuntime) -> ExitCode {
         }
         None => Status::OutOfMemory,
     };
-    ExitCode::from(status_number(status))
+    exit_code(status)
 }

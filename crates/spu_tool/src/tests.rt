@@ -1,4 +1,4 @@
-//! Whole calls of `link one.elf one.o` over files and a sink in memory.
+//! Whole calls over files and a sink in memory.
 
 use crate::status::Status;
 use crate::tool::tool;
@@ -125,5 +125,83 @@ fn names_the_faulty_word(rt: HostRuntime) -> Result<(), Fail> {
         .ok_or("memory")?;
     assert_eq!(rt; ran.status, Status::Words);
     assert_eq!(rt; ran.text.as_slice(), b"words 3\n".as_slice());
+    Ok(())
+}
+
+// The text of that object.
+const TEXT: &[u8] = b".text
+.global main
+.type main,@function
+main:
+il $3,5
+wrch 28,$3
+bi $0
+.size main,.-main
+";
+
+// Calls over the same files and sink; the statuses that they answer.
+fn statuses(
+    alloc: Global,
+    calls: &[&[&str]],
+    files: &mut MemFiles,
+    out: &mut MemSink,
+) -> Result<Vec<Status>, OutOfMemory> {
+    let mut all = Vec::new(alloc);
+    for words in calls {
+        let words = words_of(alloc, words)?;
+        all.push(tool(alloc, &words, files, out))?;
+    }
+    Ok(all)
+}
+
+#[test]
+fn assembles_links_and_runs(rt: HostRuntime) -> Result<(), Fail> {
+    let alloc = rt.alloc();
+    let mut files = MemFiles::new(alloc, Seq::new(alloc));
+    files.hold("one.s", TEXT).ok().ok_or("memory")?;
+    let mut out = MemSink::new(alloc, Seq::new(alloc));
+    let calls: [&[&str]; 4] = [
+        &["asm", "one.s", "one.o"],
+        &["link", "one.elf", "one.o"],
+        &["run", "one.elf"],
+        &["run", "--steps=2", "one.elf"],
+    ];
+    let all = statuses(alloc, &calls, &mut files, &mut out)
+        .ok()
+        .ok_or("memory")?;
+    assert_eq!(rt;
+        all.as_slice(),
+        [Status::Ok, Status::Ok, Status::Ok, Status::Running].as_slice()
+    );
+    assert_eq!(rt; files.get("one.o"), Some(OBJECT.as_slice()));
+    let text =
+        b"image flat\nfunctions 1\nstack 0 of 16384\ntop 176 of 245728\nout 5\nstop 0x2000\nsteps 6\nrunning\nsteps 2\n";
+    assert_eq!(rt; out.as_slice(), text.as_slice());
+    Ok(())
+}
+
+#[test]
+fn names_the_faulty_line(rt: HostRuntime) -> Result<(), Fail> {
+    let alloc = rt.alloc();
+    let mut files = MemFiles::new(alloc, Seq::new(alloc));
+    files
+        .hold("one.s", b".text\nil $3,5\n")
+        .ok()
+        .ok_or("memory")?;
+    files.hold("one.elf", b"none").ok().ok_or("memory")?;
+    let mut out = MemSink::new(alloc, Seq::new(alloc));
+    let calls: [&[&str]; 2] = [&["asm", "one.s", "one.o"], &["run", "one.elf"]];
+    let all = statuses(alloc, &calls, &mut files, &mut out)
+        .ok()
+        .ok_or("memory")?;
+    assert_eq!(rt;
+        all.as_slice(),
+        [Status::Refused, Status::Refused].as_slice()
+    );
+    assert!(rt; files.get("one.o").is_none());
+    assert_eq!(rt;
+        out.as_slice(),
+        b"A0 NotBuilt 2\nE0 NotBuilt one.elf\n".as_slice()
+    );
     Ok(())
 }

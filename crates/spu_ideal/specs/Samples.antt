@@ -1,0 +1,22 @@
+-- Two programs on which the symbolic machine is tried: one sends 5 and returns to the start code, which stops; the
+-- other loses its link, so that its return leaves the program.
+use Rattle.std.specs.Prelude.{ℕ, List, [], ◌∷◌, codes, ℤ, pos}
+use Rattle.spu_isa.specs.declared.operation.Op.{Op}
+use Rattle.spu_isa.specs.declared.operation.Op.TheVariants as op
+use Rattle.spu_isa.specs.declared.instruction.Inst.{Inst}
+use Rattle.spu_lift.specs.declared.program.Operand.TheVariants as operand
+use Rattle.spu_lift.specs.declared.program.SymInst.{SymInst}
+use Rattle.spu_lift.specs.declared.program.Prog.{Prog}
+use Rattle.spu_lift.specs.First.{first_program}
+use Rattle.spu_lift.specs.StartCode.{of_register, symbolic}
+
+abbrev pub of_channel : Op → ℕ → ℕ → Inst
+of_channel o rt ra = record { op = o; rt = rt; ra = ra; rb = 0; rc = 0; imm = pos 0 }
+
+-- il $3,5; wrch 28,$3; bi $0
+abbrev pub sends_five : Prog
+sends_five = first_program (codes ".text") 12 (symbolic (of_register op.Il 3 (pos 5)) operand.Plain ∷ symbolic (of_channel op.Wrch 3 28) operand.Plain ∷ symbolic (of_channel op.Bi 0 0) operand.Plain ∷ [])
+
+-- il $0,160; bi $0
+abbrev pub loses_link : Prog
+loses_link = first_program (codes ".text") 8 (symbolic (of_register op.Il 0 (pos 160)) operand.Plain ∷ symbolic (of_channel op.Bi 0 0) operand.Plain ∷ [])
