@@ -107,11 +107,13 @@ fn reads_an_image(rt: HostRuntime) -> Result<(), Fail> {
         .ok_or("an image of the first form")?;
     assert_eq!(rt; x.entry, 144);
     let again = read_written_exec(rt.alloc(), &x).ok().ok_or("memory")?;
+    assert!(rt; again.valid());
     let bytes = write_exec(rt.alloc(), &again).ok().ok_or("memory")?;
     assert_eq!(rt; bytes.as_slice(), IMAGE.as_slice());
     let made = first_image(rt.alloc(), &OBJECT[64..76])
         .ok()
         .ok_or("memory")?;
+    assert!(rt; made.valid());
     let bytes = write_exec(rt.alloc(), &made).ok().ok_or("memory")?;
     assert_eq!(rt; bytes.as_slice(), IMAGE.as_slice());
     assert_eq!(rt;

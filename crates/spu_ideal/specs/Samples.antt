@@ -1,5 +1,5 @@
--- Two programs on which the symbolic machine is tried: one sends 5 and returns to the start code, which stops; the
--- other loses its link, so that its return leaves the program.
+-- Four programs on which the symbolic machine is tried: one sends 5 and returns to the start code, which stops; one
+-- copies its link away and back; two lose their links, so that their returns leave the program.
 use Rattle.std.specs.Prelude.{ℕ, List, [], ◌∷◌, codes, ℤ, pos}
 use Rattle.spu_isa.specs.declared.operation.Op.{Op}
 use Rattle.spu_isa.specs.declared.operation.Op.TheVariants as op
@@ -20,3 +20,14 @@ sends_five = first_program (codes ".text") 12 (symbolic (of_register op.Il 3 (po
 -- il $0,160; bi $0
 abbrev pub loses_link : Prog
 loses_link = first_program (codes ".text") 8 (symbolic (of_register op.Il 0 (pos 160)) operand.Plain ∷ symbolic (of_channel op.Bi 0 0) operand.Plain ∷ [])
+
+abbrev pub or_of_registers : ℕ → ℕ → ℕ → Inst
+or_of_registers rt ra rb = record { op = op.Or; rt = rt; ra = ra; rb = rb; rc = 0; imm = pos 0 }
+
+-- or $4,$0,$0; or $0,$4,$4; bi $0
+abbrev pub copies_link : Prog
+copies_link = first_program (codes ".text") 12 (symbolic (or_of_registers 4 0 0) operand.Plain ∷ symbolic (or_of_registers 0 4 4) operand.Plain ∷ symbolic (of_channel op.Bi 0 0) operand.Plain ∷ [])
+
+-- il $4,1; or $0,$0,$4; bi $0
+abbrev pub spoils_link : Prog
+spoils_link = first_program (codes ".text") 12 (symbolic (of_register op.Il 4 (pos 1)) operand.Plain ∷ symbolic (or_of_registers 0 0 4) operand.Plain ∷ symbolic (of_channel op.Bi 0 0) operand.Plain ∷ [])
