@@ -4,6 +4,9 @@ pub mod FirstImages
 pub mod FirstValid
 pub mod Groups
 pub mod Growth
+pub mod Headers
 pub mod ImageFiles
 pub mod Ordered
+pub mod Ranges
 pub mod SegmentNames
+pub mod Steps

@@ -1,6 +1,9 @@
+pub mod Reading
 pub mod Spelling
 pub mod Validity
 pub mod First
 pub mod FirstImage
+pub mod Bounds
+pub mod Checks
 pub mod Lengths
 pub mod Views

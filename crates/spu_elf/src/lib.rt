@@ -1,7 +1,11 @@
 //! Objects and executables, and the ELF files that hold them.
 #![tactic(auto)]
 
+pub mod check_entries;
+pub mod check_headers;
+pub mod check_tables;
 pub mod drafts;
+pub mod entries;
 pub mod faults;
 pub mod first_form;
 pub mod images;
@@ -9,6 +13,7 @@ pub mod lengths;
 pub mod names;
 pub mod objects;
 pub mod read_first;
+pub mod read_relocatable;
 pub mod tables;
 pub mod validity;
 pub mod write_executable;
