@@ -40,8 +40,8 @@ symbols_in : (len : ℕ) (hs : List Header) → All (Lies len) hs → IsWithin l
 symbols_in len [] lie = none_within len
 symbols_in len (h ∷ hs) lie =
     elim (cases_Bool (is_symbols h)) [
-      inl e ↦ subst (λ (b : Bool). IsWithin len (slice_index_or (h ∷ hs) (cond (not b) (1 + position_or_len is_symbols hs) 0) no_header)) (sym e) (record { inside = (All-head (Lies len) h hs lie).inside (omega (arith, eqb-true h.kind 2 e)) (omega (arith, eqb-true h.kind 2 e)) })
-    | inr e ↦ subst (λ (b : Bool). IsWithin len (slice_index_or (h ∷ hs) (cond (not b) (1 + position_or_len is_symbols hs) 0) no_header)) (sym e) (next_within len h hs (position_or_len is_symbols hs) (symbols_in len hs (All-tail (Lies len) h hs lie)))
+      | inl e ↦ subst (λ (b : Bool). IsWithin len (slice_index_or (h ∷ hs) (cond (not b) (1 + position_or_len is_symbols hs) 0) no_header)) (sym e) (record { inside = (All-head (Lies len) h hs lie).inside (omega (arith, eqb-true h.kind 2 e)) (omega (arith, eqb-true h.kind 2 e)) })
+      | inr e ↦ subst (λ (b : Bool). IsWithin len (slice_index_or (h ∷ hs) (cond (not b) (1 + position_or_len is_symbols hs) 0) no_header)) (sym e) (next_within len h hs (position_or_len is_symbols hs) (symbols_in len hs (All-tail (Lies len) h hs lie)))
     ]
 
 -- the symbol table lies in the file

@@ -20,8 +20,8 @@ pub relocs_from : (f : ℕ → Option Reloc) (g : ℕ → ℕ) (out : List Reloc
 relocs_from f g out j n lt =
     let rest : List ℕ = map g (range_with_len (j + 1) (n - (j + 1))) in
     at_from (λ (xs : List ℕ). out ++ filter_map f (map g xs)) j n lt
-      ∙ ap (λ (rs : List Reloc). out ++ rs) (filter_map-append f (g j ∷ []) rest)
-      ∙ sym (append_assoc out (filter_map f (g j ∷ [])) (filter_map f rest))
+    ∙ ap (λ (rs : List Reloc). out ++ rs) (filter_map-append f (g j ∷ []) rest)
+    ∙ sym (append_assoc out (filter_map f (g j ∷ [])) (filter_map f rest))
 
 pub relocs_done : (f : ℕ → Option Reloc) (g : ℕ → ℕ) (out : List Reloc) (j n : ℕ) → n ≤ j → out ++ filter_map f (map g (range_with_len j (n - j))) ≡ out
 relocs_done f g out j n le = at_done (λ (xs : List ℕ). out ++ filter_map f (map g xs)) j n le ∙ append-nil out
@@ -30,14 +30,14 @@ pub tables_from : (F : Header → List Reloc) (k : ℕ) (out : List Reloc) (ts :
 tables_from F k out ts i d lt e =
     let rest : List Header = filter (λ (h : Header). h.info == k) (drop (i + 1) ts) in
     at_drop_more (λ (xs : List Header). out ++ flat_map F (filter (λ (h : Header). h.info == k) xs)) ts i d lt
-      ∙ ap (λ (b : Bool). out ++ flat_map F (if b then get_or ts i d ∷ rest else rest)) (eq-eqb (get_or ts i d).info k e)
-      ∙ sym (append_assoc out (F (get_or ts i d)) (flat_map F rest))
+    ∙ ap (λ (b : Bool). out ++ flat_map F (if b then get_or ts i d ∷ rest else rest)) (eq-eqb (get_or ts i d).info k e)
+    ∙ sym (append_assoc out (F (get_or ts i d)) (flat_map F rest))
 
 pub tables_other : (F : Header → List Reloc) (k : ℕ) (out : List Reloc) (ts : List Header) (i : ℕ) (d : Header) → i < length ts → (get_or ts i d).info ≢ k → out ++ flat_map F (filter (λ (h : Header). h.info == k) (drop i ts)) ≡ out ++ flat_map F (filter (λ (h : Header). h.info == k) (drop (i + 1) ts))
 tables_other F k out ts i d lt e =
     let rest : List Header = filter (λ (h : Header). h.info == k) (drop (i + 1) ts) in
     at_drop_more (λ (xs : List Header). out ++ flat_map F (filter (λ (h : Header). h.info == k) xs)) ts i d lt
-      ∙ ap (λ (b : Bool). out ++ flat_map F (if b then get_or ts i d ∷ rest else rest)) (ne_eqb (get_or ts i d).info k e)
+    ∙ ap (λ (b : Bool). out ++ flat_map F (if b then get_or ts i d ∷ rest else rest)) (ne_eqb (get_or ts i d).info k e)
 
 pub tables_done : (F : Header → List Reloc) (k : ℕ) (out : List Reloc) (ts : List Header) (i : ℕ) → length ts ≤ i → out ++ flat_map F (filter (λ (h : Header). h.info == k) (drop i ts)) ≡ out
 tables_done F k out ts i le = at_drop_all (λ (xs : List Header). out ++ flat_map F (filter (λ (h : Header). h.info == k) xs)) ts i le ∙ append-nil out

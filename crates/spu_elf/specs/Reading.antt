@@ -345,9 +345,9 @@ object_fault b =
     ident_checks 1 b
     then_check fails (not (be_number b 20 == 1)) kinds.BadTable 20
     then_check (if is_blank b then None else
-        header_checks b
-        then_check table_checks b (headers b) (section_numbers b (headers b))
-        then_check entry_checks b (headers b) (section_numbers b (headers b)))
+    header_checks b
+    then_check table_checks b (headers b) (section_numbers b (headers b))
+    then_check entry_checks b (headers b) (section_numbers b (headers b)))
 
 abbrev pub no_object : Object
 no_object = record { sections = []; symbols = []; relocs = [] }

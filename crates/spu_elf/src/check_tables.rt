@@ -63,13 +63,7 @@ pub fn name_of(table: &[u8], at: usize) -> Option<&[u8]>
     ensures { option_map (λ x. x.now) result ≡ name_of table.now at }
 {
     match name_at(table, at) {
-        Some(name) => {
-            if is_printed(name) {
-                Some(name)
-            } else {
-                None
-            }
-        }
+        Some(name) => { if is_printed(name) { Some(name) } else { None } }
         None => None,
     }
 }

@@ -13,17 +13,18 @@ pub mod lengths;
 pub mod names;
 pub mod objects;
 pub mod read_first;
-pub mod read_relocatable;
+pub mod relocatable;
 pub mod tables;
 pub mod validity;
 pub mod write_executable;
 pub mod write_relocatable;
 
-pub use faults::ElfFault;
+pub use faults::{ElfFault, ElfKind, ReadFault};
 pub use first_form::is_first;
 pub use images::{first_image, read_exec, read_written_exec};
 pub use objects::{Exec, Object, Reloc, SecKind, Section, Segment, SymKind, SymPlace, Symbol};
 pub use read_first::{read_object, read_written_object};
+pub use relocatable::read_relocatable;
 pub use write_executable::write_exec;
 pub use write_relocatable::write_object;
 

@@ -185,3 +185,37 @@ fn writes_relocations(rt: HostRuntime) -> Result<(), Fail> {
     assert!(rt; !o.valid());
     Ok(())
 }
+
+/// The fault of `RELOCATED` with another byte at a place.
+fn fault_at(rt: &impl Abort, alloc: Global, at: usize, byte: u8) -> Option<ReadFault> {
+    let mut bytes = RELOCATED;
+    assert!(rt; at < bytes.len());
+    bytes[at] = byte;
+    read_relocatable(alloc, &bytes).err()
+}
+
+/// A fault of this kind and place.
+fn fault(kind: ElfKind, place: u32) -> Option<ReadFault> {
+    Some(ReadFault::Fault { kind, place })
+}
+
+#[test]
+fn reads_relocations(rt: HostRuntime) -> Result<(), Fail> {
+    let o = read_relocatable(rt.alloc(), &RELOCATED)
+        .ok()
+        .ok_or("an object")?;
+    assert!(rt; o.valid());
+    let bytes = write_object(rt.alloc(), &o).ok().ok_or("memory")?;
+    assert_eq!(rt; bytes.as_slice(), RELOCATED.as_slice());
+    let a = rt.alloc();
+    assert_eq!(rt; fault_at(&rt, a, 1, 0), fault(ElfKind::NotElf, 0));
+    assert_eq!(rt; fault_at(&rt, a, 47, 41), fault(ElfKind::BadTable, 46));
+    // the relocation names symbol 3 of 2, and the symbol `go` has binding 2
+    assert_eq!(rt; fault_at(&rt, a, 74, 3), fault(ElfKind::BadReloc, 72));
+    assert_eq!(rt; fault_at(&rt, a, 108, 34), fault(ElfKind::BadSymbol, 108));
+    assert_eq!(rt;
+        read_relocatable(a, &RELOCATED[..51]).err(),
+        fault(ElfKind::Truncated, 51)
+    );
+    Ok(())
+}

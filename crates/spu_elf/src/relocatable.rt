@@ -327,7 +327,12 @@ fn read_entries(
 {
     let h = symbols_header(bytes.len(), headers);
     let listed = entries(alloc, bytes, &h)?;
-    check_symbols(headers, numbers, symbol_names(bytes, headers, &h), listed.as_slice())?;
+    check_symbols(
+        headers,
+        numbers,
+        symbol_names(bytes, headers, &h),
+        listed.as_slice(),
+    )?;
     let symbols_listed = symbol_numbers(alloc, numbers, listed.as_slice())?;
     check_relocs(bytes, headers, symbols_listed.as_slice(), tables)?;
     let o = object_with(
@@ -383,10 +388,7 @@ fn read_tables(alloc: Global, bytes: &[u8], headers: &[Header]) -> Result<Object
 /// The object that a file stands for, or the first failing check and its place. Relocations come in
 /// order of the sections that they are in; symbols and sections keep their order. Dropped are what
 /// isn't allocated, `.eh_frame`, file symbols, symbols in what is dropped, and relocations of type 0.
-#[tactic(
-    auto,
-    unfolding(crate::specs::Reading::object_fault, crate::specs::Reading::object_in)
-)]
+#[tactic(auto, unfolding(crate::specs::Reading::object_fault, crate::specs::Reading::object_in))]
 pub fn read_relocatable(alloc: Global, bytes: &[u8]) -> Result<Object, ReadFault>
     ensures checks { Names result (object_fault bytes.now) }
     ensures value { IfOk result (λ o. o ≡ object_in bytes.now) }
