@@ -6,7 +6,10 @@ pub mod Groups
 pub mod Growth
 pub mod Headers
 pub mod ImageFiles
+pub mod Laid
+pub mod NameLemmas
 pub mod Ordered
+pub mod Passing
 pub mod Ranges
 pub mod SegmentNames
 pub mod Steps
