@@ -25,14 +25,17 @@ first_section s form = record {
   named = form.named;
   kept = form.kept;
   power = form.power;
+  width = form.width;
   small = omega (arith, form.most);
   filled = form.filled ∙ sym (ap (λ (k : SecKind). bytes_len k s.size) form.kind);
 }
 
-main_symbol : (s : Section) → IsValidSymbol (s ∷ []) (main_of s.size)
-main_symbol s = record {
+main_symbol : (s : Section) → s.size ≤ 65536 → IsValidSymbol (s ∷ []) (main_of s.size)
+main_symbol s most = record {
   named = main_is_name;
   placed = (s, refl, omega arith);
+  value = lit< tt;
+  size = omega arith;
   section_is_local = λ e. absurd cc;
   section_is_inside = λ e. absurd cc;
 }
@@ -44,7 +47,7 @@ few_sections s = lit≤ tt
 object_is_valid : (s : Section) → IsFirstSection s → length (spell (object_of s)) ≤ 67000 → IsValid (object_of s)
 object_is_valid s form small = record {
   sections = All-cons IsValidSection s [] (first_section s form) (All-nil IsValidSection);
-  symbols = All-cons (IsValidSymbol (s ∷ [])) (main_of s.size) [] (main_symbol s) (All-nil (IsValidSymbol (s ∷ [])));
+  symbols = All-cons (IsValidSymbol (s ∷ [])) (main_of s.size) [] (main_symbol s form.most) (All-nil (IsValidSymbol (s ∷ [])));
   locals_first = All-cons (λ (m : Symbol). m.global ≡ true) (main_of s.size) [] refl (All-nil _);
   relocs = All-nil _;
   ordered = tt;

@@ -12,4 +12,5 @@ pub mod Ordered
 pub mod Passing
 pub mod Ranges
 pub mod SegmentNames
+pub mod SpelledHeaders
 pub mod Steps

@@ -1,6 +1,6 @@
--- Which names, objects and executables are valid: those that have a file.
-use Rattle.std.specs.Prelude.{◌≡◌, ◌≢◌, ℕ, ◌+◌, ◌%◌, ◌<◌, ◌≤◌, true, false, Some, List, [], ◌∷◌, length, drop, codes, slice_get, All, ◌⊎◌}
-use Rattle.std.specs.Int.{is_power_of_two}
+-- Which names, objects and executables are valid: those that have a file. Each field fits in its word.
+use Rattle.std.specs.Prelude.{◌≡◌, ◌≢◌, ℕ, ◌+◌, ◌%◌, ◌^◌, ◌<◌, ◌≤◌, true, false, Some, List, [], ◌∷◌, length, drop, codes, slice_get, All, FitsSigned, ◌⊎◌}
+use Rattle.std.specs.Int.{is_power_of_two, w32}
 use Rattle.spu_elf.specs.Spelling.{locals, symbols_number, spell, spell_exec}
 use Rattle.spu_elf.specs.declared.objects.Section.{Section}
 use Rattle.spu_elf.specs.declared.objects.SecKind.{SecKind}
@@ -34,6 +34,7 @@ pub record IsValidSection (s : Section) : Type 0 where
   pub named : IsName s.name
   pub kept : s.name ≢ codes ".eh_frame"
   pub power : is_power_of_two s.align ≡ true
+  pub width : s.align < 2 ^ 32
   pub small : s.size ≤ 262144
   pub filled : length s.bytes ≡ bytes_len s.kind s.size
 
@@ -59,6 +60,8 @@ IsInside (places.Inside k) = Unit {0}
 pub record IsValidSymbol (sections : List Section) (s : Symbol) : Type 0 where
   pub named : IsSymbolName s.kind s.name
   pub placed : IsPlaced sections s s.place
+  pub value : s.value < 2 ^ 32
+  pub size : s.size < 2 ^ 32
   pub section_is_local : s.kind ≡ names.Section → s.global ≡ false
   pub section_is_inside : s.kind ≡ names.Section → IsInside s.place
 
@@ -73,6 +76,7 @@ pub record IsValidReloc (sections : List Section) (symbols : ℕ) (r : Reloc) : 
   pub known : r.symbol < symbols
   pub kind_from : 1 ≤ r.kind
   pub kind_to : r.kind ≤ 255
+  pub addend : FitsSigned w32 r.addend
 
 -- each relocation's section is at least that of the one before it, and at least this
 abbrev pub AreOrdered : ℕ → List Reloc → Type 0

@@ -48,13 +48,16 @@ fn is_symbol_name(kind: SymKind, name: &[u8]) -> bool
 
 /// Whether a symbol is global or defined, and ends inside its section.
 fn is_placed(sections: &[Section], s: &Symbol) -> bool
-    ensures { IsTrue result ↔ IsPlaced sections.now s.now s.now.place }
+    ensures placed { IsTrue result ↔ IsPlaced sections.now s.now s.now.place }
+    ensures value { s.now.value < 2 ^ 32 }
+    ensures size { s.now.size < 2 ^ 32 }
 {
+    let end = s.value as u64 + s.size as u64;
     match s.place {
         SymPlace::Undefined => s.global,
         SymPlace::Absolute => true,
         SymPlace::Inside(k) => match sections.get(k as usize) {
-            Some(t) => s.value as u64 + s.size as u64 <= t.size as u64,
+            Some(t) => end <= t.size as u64,
             None => false,
         },
     }
@@ -101,15 +104,15 @@ pub fn are_locals_first(symbols: &Seq<Symbol>) -> bool
 }
 
 /// Whether a relocation lies inside this section, which isn't Zero and leaves room for a name.
-fn is_relocated(t: &Section, r: &Reloc) -> bool
-    ensures { IsTrue result ↔ IsRelocated t.now r.now }
+fn is_relocated(t: &Section, r: Reloc) -> bool
+    ensures { IsTrue result ↔ IsRelocated t.now r }
 {
     t.kind != SecKind::Zero && t.name.len() <= 1018 && r.offset as u64 + 4 <= t.size as u64
 }
 
 /// Whether a relocation lies inside its section.
-fn has_target(sections: &Seq<Section>, r: &Reloc) -> bool
-    ensures { IsTrue result ↔ ((t : Section) × (slice_get sections.now r.now.section ≡ Some t) × IsRelocated t r.now) }
+fn has_target(sections: &Seq<Section>, r: Reloc) -> bool
+    ensures { IsTrue result ↔ ((t : Section) × (slice_get sections.now r.section ≡ Some t) × IsRelocated t r) }
 {
     match sections.get(r.section as usize) {
         Some(t) => is_relocated(t, r),
@@ -118,8 +121,8 @@ fn has_target(sections: &Seq<Section>, r: &Reloc) -> bool
 }
 
 /// Whether a relocation of an object with these sections and symbols is valid.
-fn is_valid_reloc(sections: &Seq<Section>, symbols: &Seq<Symbol>, r: &Reloc) -> bool
-    ensures { IsTrue result ↔ IsValidReloc sections.now (length symbols.now) r.now }
+fn is_valid_reloc(sections: &Seq<Section>, symbols: &Seq<Symbol>, r: Reloc) -> bool
+    ensures { IsTrue result ↔ IsValidReloc sections.now (length symbols.now) r }
 {
     has_target(sections, r) && (r.symbol as usize) < symbols.len() && 1 <= r.kind && r.kind <= 255
 }
@@ -129,7 +132,7 @@ pub fn are_valid_relocs(sections: &Seq<Section>, symbols: &Seq<Symbol>, relocs: 
     ensures { IsTrue result ↔ All (IsValidReloc sections.now (length symbols.now)) relocs.now }
 {
     for r in relocs.as_slice() {
-        if !is_valid_reloc(sections, symbols, r) {
+        if !is_valid_reloc(sections, symbols, *r) {
             return false;
         }
     }
