@@ -80,10 +80,10 @@ strings_added t (s ∷ ss) =
     let f : Symbol → ℕ = λ (s : Symbol). ended_len (length s.name) in
     strings_added (with_symbol t s) ss ∙ ap (λ (n : ℕ). n + sum_by f ss) (string_added t s) ∙ omega (arith, sum_by-cons f s ss)
 
-length_entries : (ss : List Symbol) → length (symbol_table ss).entries ≡ 16 + 16 * length ss
+pub length_entries : (ss : List Symbol) → length (symbol_table ss).entries ≡ 16 + 16 * length ss
 length_entries ss = entries_added (record { entries = replicate 16 0; strings = 0 ∷ [] }) ss
 
-length_strings : (ss : List Symbol) → length (symbol_table ss).strings ≡ strings_len ss
+pub length_strings : (ss : List Symbol) → length (symbol_table ss).strings ≡ strings_len ss
 length_strings ss = strings_added (record { entries = replicate 16 0; strings = 0 ∷ [] }) ss
 
 pub extent_tables : (number : ℕ) (ss : List Symbol) (d : Draft) → extent_of (with_tables number ss d) ≡ tables_grown (extent_of d) (length ss) (strings_len ss)

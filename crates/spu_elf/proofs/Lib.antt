@@ -2,6 +2,7 @@ pub mod ExtentLemmas
 pub mod FirstFiles
 pub mod FirstImages
 pub mod FirstValid
+pub mod GroupLemmas
 pub mod Groups
 pub mod Growth
 pub mod Headers
@@ -12,5 +13,6 @@ pub mod Ordered
 pub mod Passing
 pub mod Ranges
 pub mod SegmentNames
+pub mod SpelledChecks
 pub mod SpelledHeaders
 pub mod Steps
