@@ -47,7 +47,7 @@ extent_sections : (d : Draft) (ss : List Section) → extent_of (fold added d (m
 extent_sections d [] = refl
 extent_sections d (s ∷ ss) = extent_sections (added d (section_part s)) ss ∙ ap (λ (e : Extent). fold section_grown e ss) (extent_added d (section_part s))
 
-length_relocations : (rs : List Reloc) → length (flat_map relocation rs) ≡ 12 * length rs
+pub length_relocations : (rs : List Reloc) → length (flat_map relocation rs) ≡ 12 * length rs
 length_relocations [] = refl
 length_relocations (r ∷ rs) = omega (arith, length-append (relocation r) (flat_map relocation rs), length_relocations rs)
 

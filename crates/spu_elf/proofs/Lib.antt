@@ -9,10 +9,12 @@ pub mod Headers
 pub mod ImageFiles
 pub mod Laid
 pub mod NameLemmas
+pub mod Numbering
 pub mod Ordered
 pub mod Passing
 pub mod Ranges
 pub mod SegmentNames
 pub mod SpelledChecks
 pub mod SpelledHeaders
+pub mod SpelledNames
 pub mod Steps
