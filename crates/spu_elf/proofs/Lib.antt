@@ -17,4 +17,5 @@ pub mod SegmentNames
 pub mod SpelledChecks
 pub mod SpelledHeaders
 pub mod SpelledNames
+pub mod SpelledTables
 pub mod Steps

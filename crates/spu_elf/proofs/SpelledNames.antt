@@ -60,16 +60,16 @@ Printed c = (33 ≤ c) × (c ≤ 126)
 rela_printed : All Printed (codes ".rela")
 rela_printed = All-cons Printed 46 (114 ∷ 101 ∷ 108 ∷ 97 ∷ []) (lit≤ tt, lit≤ tt) (All-cons Printed 114 (101 ∷ 108 ∷ 97 ∷ []) (lit≤ tt, lit≤ tt) (All-cons Printed 101 (108 ∷ 97 ∷ []) (lit≤ tt, lit≤ tt) (All-cons Printed 108 (97 ∷ []) (lit≤ tt, lit≤ tt) (All-cons Printed 97 [] (lit≤ tt, lit≤ tt) (All-nil Printed)))))
 
-symtab_named : IsName (codes ".symtab")
+pub symtab_named : IsName (codes ".symtab")
 symtab_named = record { some = lit< tt; short = lit< tt; printed = All-cons Printed 46 (115 ∷ 121 ∷ 109 ∷ 116 ∷ 97 ∷ 98 ∷ []) (lit≤ tt, lit≤ tt) (All-cons Printed 115 (121 ∷ 109 ∷ 116 ∷ 97 ∷ 98 ∷ []) (lit≤ tt, lit≤ tt) (All-cons Printed 121 (109 ∷ 116 ∷ 97 ∷ 98 ∷ []) (lit≤ tt, lit≤ tt) (All-cons Printed 109 (116 ∷ 97 ∷ 98 ∷ []) (lit≤ tt, lit≤ tt) (All-cons Printed 116 (97 ∷ 98 ∷ []) (lit≤ tt, lit≤ tt) (All-cons Printed 97 (98 ∷ []) (lit≤ tt, lit≤ tt) (All-cons Printed 98 [] (lit≤ tt, lit≤ tt) (All-nil Printed))))))) }
 
 strtab_printed : All Printed (115 ∷ 116 ∷ 114 ∷ 116 ∷ 97 ∷ 98 ∷ [])
 strtab_printed = All-cons Printed 115 (116 ∷ 114 ∷ 116 ∷ 97 ∷ 98 ∷ []) (lit≤ tt, lit≤ tt) (All-cons Printed 116 (114 ∷ 116 ∷ 97 ∷ 98 ∷ []) (lit≤ tt, lit≤ tt) (All-cons Printed 114 (116 ∷ 97 ∷ 98 ∷ []) (lit≤ tt, lit≤ tt) (All-cons Printed 116 (97 ∷ 98 ∷ []) (lit≤ tt, lit≤ tt) (All-cons Printed 97 (98 ∷ []) (lit≤ tt, lit≤ tt) (All-cons Printed 98 [] (lit≤ tt, lit≤ tt) (All-nil Printed))))))
 
-strtab_named : IsName (codes ".strtab")
+pub strtab_named : IsName (codes ".strtab")
 strtab_named = record { some = lit< tt; short = lit< tt; printed = All-cons Printed 46 (115 ∷ 116 ∷ 114 ∷ 116 ∷ 97 ∷ 98 ∷ []) (lit≤ tt, lit≤ tt) strtab_printed }
 
-shstrtab_named : IsName (codes ".shstrtab")
+pub shstrtab_named : IsName (codes ".shstrtab")
 shstrtab_named = record { some = lit< tt; short = lit< tt; printed = All-cons Printed 46 (115 ∷ 104 ∷ 115 ∷ 116 ∷ 114 ∷ 116 ∷ 97 ∷ 98 ∷ []) (lit≤ tt, lit≤ tt) (All-cons Printed 115 (104 ∷ 115 ∷ 116 ∷ 114 ∷ 116 ∷ 97 ∷ 98 ∷ []) (lit≤ tt, lit≤ tt) (All-cons Printed 104 (115 ∷ 116 ∷ 114 ∷ 116 ∷ 97 ∷ 98 ∷ []) (lit≤ tt, lit≤ tt) strtab_printed)) }
 
 section_of_name : (o : Object) → IsValid o → (k : ℕ) (t : Section) → slice_get o.sections k ≡ Some t → IsName t.name
@@ -83,7 +83,7 @@ section_of_name o valid k t e = found o.sections k valid.sections e
 rela_named : (name : List ℕ) → IsName name → length name ≤ 1018 → IsName (codes ".rela" ++ name)
 rela_named name is short = record { some = omega (arith, length-append (codes ".rela") name); short = omega (arith, length-append (codes ".rela") name); printed = All-append Printed (codes ".rela") name rela_printed is.printed }
 
-group_named : (o : Object) → IsValid o → (g : Group) → GroupOf o g → Named (relocation_part (symbols_number o) g)
+pub group_named : (o : Object) → IsValid o → (g : Group) → GroupOf o g → Named (relocation_part (symbols_number o) g)
 group_named o valid g is =
     let target : HasTarget o g = has_target o g is in
     subst (λ (n : List ℕ). IsName (codes ".rela" ++ n)) (sym target.name) (rela_named target.t.name (section_of_name o valid g.target target.t target.found) target.short)
