@@ -17,5 +17,6 @@ pub mod SegmentNames
 pub mod SpelledChecks
 pub mod SpelledHeaders
 pub mod SpelledNames
+pub mod SpelledSections
 pub mod SpelledTables
 pub mod Steps
