@@ -18,5 +18,8 @@ pub mod SpelledChecks
 pub mod SpelledHeaders
 pub mod SpelledNames
 pub mod SpelledSections
+pub mod SpelledRelocs
+pub mod SpelledSymbols
 pub mod SpelledTables
 pub mod Steps
+pub mod SymbolsBack

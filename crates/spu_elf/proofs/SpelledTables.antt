@@ -82,7 +82,7 @@ heads_regroup o = ap (λ (hs : List Header). header (spell o) 0 ∷ hs) (append_
 abbrev pub numbers_of : Object → List (Option ℕ)
 numbers_of o = None ∷ (map Some (range_with_len 0 (length o.sections)) ++ replicate (length (rest_heads o)) None)
 
-length_sections : (o : Object) → length (section_heads o) ≡ length o.sections
+pub length_sections : (o : Object) → length (section_heads o) ≡ length o.sections
 length_sections o = length_laid (shoff_of o) (blank 52) (map section_part o.sections) ∙ length-map o.sections section_part
 
 sections_kept : (o : Object) → IsValid o → All (λ (h : Header). keeps (table_of o) h ≡ true) (section_heads o)
@@ -148,7 +148,7 @@ no_symbols o valid =
         (all_laid o (λ (p : Part). p.kind ≡ 4) (λ (h : Header). is_symbols h ≡ false) (λ d p ps e is. ap (λ (k : ℕ). k == 2) is) (sections_draft o) (group_parts o) (tables_of o) (groups_fold o)
           (All-map (λ (p : Part). p.kind ≡ 4) (relocation_part (symbols_number o)) (groups_of o) (λ (k : ℕ) (g : Group) (lt : k < length (groups_of o)). refl))))
 
-length_all : (o : Object) → length (all_heads o) ≡ symbols_number o + 3
+pub length_all : (o : Object) → length (all_heads o) ≡ symbols_number o + 3
 length_all o = omega (arith, length-append (first_heads o) (symbols_head o ∷ strings_head o ∷ names_head o ∷ []), length_first_heads o)
 
 pub symbols_are_at : (o : Object) → IsValid o → symbols_at (all_heads o) ≡ symbols_number o
