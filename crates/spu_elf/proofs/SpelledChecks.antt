@@ -267,13 +267,17 @@ names_there o = last_there o 2 (symbols_number o + 2) refl
 
 -- ---- the bytes of a section
 
-pub bytes_laid : (o : Object) (d : Draft) (p : Part) (ps : List Part) → fold added (added d p) ps ≡ whole_draft o → 52 ≤ length d.file → p.size ≡ length p.bytes → bytes_of (spell o) (laid_at (shoff_of o) d p) ≡ p.bytes
-bytes_laid o d p ps e le size =
+pub stands_laid : (o : Object) (d : Draft) (p : Part) (ps : List Part) → fold added (added d p) ps ≡ whole_draft o → 52 ≤ length d.file → Stands (length (aligned p.step d.file)) p.bytes (spell o)
+stands_laid o d p ps e le =
     let at : ℕ = length (aligned p.step d.file) in
     let inside : Stands at p.bytes (added d p).file = stands_at _ at p.bytes (added d p).file (sym (length_aligned p.step d.file)) (arrives d p) in
     let whole : Stands at p.bytes (whole_draft o).file = subst (λ (x : Draft). Stands at p.bytes x.file) e (file_stays_in at p.bytes (added d p) ps inside) in
-    let stands : Stands at p.bytes (spell o) = subst (λ (b : List ℕ). Stands at p.bytes b) (sym (spell_is o)) (in_file at p.bytes (front_of o) (whole_draft o) (omega (arith, length_aligned p.step d.file)) whole) in
-    ap (λ (n : ℕ). take n (drop at (spell o))) size ∙ stands_slice at p.bytes (spell o) stands
+    subst (λ (b : List ℕ). Stands at p.bytes b) (sym (spell_is o)) (in_file at p.bytes (front_of o) (whole_draft o) (omega (arith, length_aligned p.step d.file)) whole)
+
+pub bytes_laid : (o : Object) (d : Draft) (p : Part) (ps : List Part) → fold added (added d p) ps ≡ whole_draft o → 52 ≤ length d.file → p.size ≡ length p.bytes → bytes_of (spell o) (laid_at (shoff_of o) d p) ≡ p.bytes
+bytes_laid o d p ps e le size =
+    let at : ℕ = length (aligned p.step d.file) in
+    ap (λ (n : ℕ). take n (drop at (spell o))) size ∙ stands_slice at p.bytes (spell o) (stands_laid o d p ps e le)
 
 blank_grows : (ps : List Part) → 52 ≤ length (fold added (blank 52) ps).file
 blank_grows ps = omega (arith, length_blank 52, file_grows_in (blank 52) ps)

@@ -14,12 +14,15 @@ use Rattle.spu_elf.specs.declared.objects.SymPlace.TheVariants as places
 use Rattle.spu_elf.specs.declared.entries.Header.{Header}
 use Rattle.spu_elf.specs.declared.entries.Entry.{Entry}
 use Rattle.spu_elf.specs.declared.faults.ElfKind.TheVariants as faults
-use Rattle.spu_elf.specs.Spelling.{Symbols, kind_number, place_number, symbols_number}
+use Rattle.spu_elf.specs.Spelling.{Symbols, with_symbol, name_place, ended, kind_number, place_number, symbols_number}
 use Rattle.spu_elf.specs.Validity.{IsName, IsSymbolName, IsPlaced, IsInside, IsValid, IsValidSymbol}
-use Rattle.spu_elf.specs.Reading.{header_or, number_of, is_unnamed, symbol_name_checks, passes, place_checks, keeps_symbol, symbol_kind, symbol_place}
+use Rattle.spu_elf.specs.Reading.{header_or, name_of, symbol_checks, symbol_of, number_of, is_unnamed, symbol_name_checks, passes, place_checks, keeps_symbol, symbol_kind, symbol_place}
 use Rattle.spu_elf.proofs.Passing.{pass, then_pass, not_below, not_within, is_other}
+use Rattle.spu_word.proofs.Stands.{Stands, stands_at}
+use Rattle.std.proofs.lemmas.List.Elements.{All-nil, All-cons, All-head, All-tail}
+use Rattle.spu_elf.proofs.NameLemmas.{name_stands, name_empty}
 use Rattle.spu_elf.proofs.SpelledChecks.{section_heads, all_heads}
-use Rattle.spu_elf.proofs.SpelledSymbols.{info_of, entry_of, entries_of}
+use Rattle.spu_elf.proofs.SpelledSymbols.{info_of, entry_of, entries_of, string_arrives}
 use Rattle.spu_elf.proofs.SpelledTables.{numbers_of, section_number, Laid, section_there, length_all, length_sections, rest_heads, heads_regroup}
 
 -- ---- the info byte
@@ -155,3 +158,57 @@ place_passes o at t s back =
         (then_pass _ _ (pass (y.shndx == 0 && y.info / 16 == 0) faults.BadSymbol (y.place + 14) back.defined)
           (pass (not (y.info % 16 == 4) && passes hs ns y) faults.BadSymbol (y.place + 4) (ap (λ (b : Bool). not (y.info % 16 == 4) && b) back.ends ∙ and_false (not (y.info % 16 == 4)))))),
      ap (λ (b : Bool). b && (y.shndx == 0 || y.shndx == 0xfff1 || is_some (number_of ns y.shndx))) (info_no_file s.global s.kind) ∙ back.kept)
+
+-- ---- the names of symbols
+
+place_of : (table name : List ℕ) → IsName name → length table ≡ name_place table name
+place_of table [] is = absurd (omega (arith, is.some))
+place_of table (c ∷ cs) is = refl
+
+name_back : (table : List ℕ) (t : Symbols) (name : List ℕ) → Stands 0 (0 ∷ []) table → Stands (length t.strings) (ended name) table → ((name ≡ []) ⊎ IsName name) → name_of table (name_place t.strings name) ≡ Some name
+name_back table t name zero stands (inl e) = subst (λ (n : List ℕ). name_of table (name_place t.strings n) ≡ Some n) (sym e) (name_empty table zero)
+name_back table t name zero stands (inr is) = name_stands (name_place t.strings name) name table is (stands_at (length t.strings) (name_place t.strings name) (ended name) table (place_of t.strings name is) stands)
+
+either_name : (k : SymKind) (name : List ℕ) → IsSymbolName k name → ((name ≡ []) ⊎ IsName name)
+either_name names.Plain name is = inr is
+either_name names.Object name is = inr is
+either_name names.Function name is = inr is
+either_name names.Section name is = is
+
+not_empty : (name : List ℕ) → IsName name → (length name == 0) ≡ false
+not_empty name is = is_other (length name) 0 (λ e. omega (arith, e, is.some))
+
+unnamed : (g : Bool) (k : SymKind) (name : List ℕ) → IsSymbolName k name → (k ≡ names.Section → g ≡ false) → (length name == 0 && (((if g then 16 else 0) + kind_number k) / 16 == 1 || ((if g then 16 else 0) + kind_number k) % 16 == 2)) ≡ false
+unnamed g names.Plain name is f = ap (λ (t : Bool). t && (((if g then 16 else 0) + 0) / 16 == 1 || ((if g then 16 else 0) + 0) % 16 == 2)) (not_empty name is)
+unnamed g names.Object name is f = ap (λ (t : Bool). t && (((if g then 16 else 0) + 1) / 16 == 1 || ((if g then 16 else 0) + 1) % 16 == 2)) (not_empty name is)
+unnamed g names.Function name is f = ap (λ (t : Bool). t && (((if g then 16 else 0) + 2) / 16 == 1 || ((if g then 16 else 0) + 2) % 16 == 2)) (not_empty name is)
+unnamed g names.Section name is f = ap (λ (t : Bool). length name == 0 && (((if t then 16 else 0) + 3) / 16 == 1 || ((if t then 16 else 0) + 3) % 16 == 2)) (f refl) ∙ and_false (length name == 0)
+
+abbrev of_fields : List ℕ → ℕ → ℕ → SymKind → Bool → SymPlace → Symbol
+of_fields n v s k g p = record { name = n; value = v; size = s; kind = k; global = g; place = p }
+
+made : (n m : List ℕ) (v s : ℕ) (k l : SymKind) (g h : Bool) (p q : SymPlace) → n ≡ m → k ≡ l → g ≡ h → p ≡ q → of_fields n v s k g p ≡ of_fields m v s l h q
+made n m v s k l g h p q a b c d = cc
+
+-- one symbol
+symbol_back : (o : Object) → IsValid o → (at : ℕ) (t : Symbols) (s : Symbol) (table : List ℕ) → Stands 0 (0 ∷ []) table → Stands (length t.strings) (ended s.name) table → IsValidSymbol o.sections s → (symbol_checks (all_heads o) (numbers_of o) table (entry_of at t s) ≡ None) × (keeps_symbol (numbers_of o) (entry_of at t s) ≡ true) × (symbol_of (numbers_of o) table (entry_of at t s) ≡ s)
+symbol_back o valid at t s table zero stands is =
+    let y : Entry = entry_of at t s in
+    let name : name_of table y.name ≡ Some s.name = name_back table t s.name zero stands (either_name s.kind s.name is.named) in
+    let back : IsBack o s s.place = place_back o valid s s.place is.placed in
+    let checks = place_passes o at t s back in
+    let named : symbol_name_checks (name_of table y.name) y ≡ None = ap (λ (n : Option (List ℕ)). symbol_name_checks n y) name ∙ pass (length s.name == 0 && (y.info / 16 == 1 || y.info % 16 == 2)) faults.BadName y.place (unnamed s.global s.kind s.name is.named is.section_is_local) in
+    (then_pass (symbol_name_checks (name_of table y.name) y) (place_checks (all_heads o) (numbers_of o) y) named checks.0,
+     checks.1,
+     made (unwrap_or (name_of table y.name) []) s.name s.value s.size (symbol_kind (y.info % 16)) s.kind (y.info / 16 == 1) s.global (symbol_place (numbers_of o) y.shndx) s.place (ap (λ (n : Option (List ℕ)). unwrap_or n []) name) (info_kind s.global s.kind) (info_global s.global s.kind) back.place)
+
+-- all symbols of a table
+pub symbols_back : (o : Object) → IsValid o → (at : ℕ) (t : Symbols) (ss : List Symbol) → Stands 0 (0 ∷ []) (fold with_symbol t ss).strings → All (IsValidSymbol o.sections) ss → All (λ (y : Entry). (symbol_checks (all_heads o) (numbers_of o) (fold with_symbol t ss).strings y ≡ None) × (keeps_symbol (numbers_of o) y ≡ true)) (entries_of at t ss) × (map (symbol_of (numbers_of o) (fold with_symbol t ss).strings) (entries_of at t ss) ≡ ss)
+symbols_back o valid at t [] zero all = (All-nil _, refl)
+symbols_back o valid at t (s ∷ ss) zero all =
+    let table : List ℕ = (fold with_symbol (with_symbol t s) ss).strings in
+    let Q : Entry → Type 0 = λ (y : Entry). (symbol_checks (all_heads o) (numbers_of o) table y ≡ None) × (keeps_symbol (numbers_of o) y ≡ true) in
+    let first = symbol_back o valid at t s table zero (string_arrives t s ss) (All-head (IsValidSymbol o.sections) s ss all) in
+    let rest = symbols_back o valid at (with_symbol t s) ss zero (All-tail (IsValidSymbol o.sections) s ss all) in
+    (All-cons Q (entry_of at t s) (entries_of at (with_symbol t s) ss) (first.0, first.1) rest.0,
+     ap (λ (x : Symbol). x ∷ map (symbol_of (numbers_of o) table) (entries_of at (with_symbol t s) ss)) first.2 ∙ ap (λ (xs : List Symbol). s ∷ xs) rest.1)
