@@ -4,3 +4,4 @@ pub mod Lines
 pub mod Operands
 pub mod Forms
 pub mod Answers
+pub mod Names

@@ -4,6 +4,7 @@
 mod assembler;
 mod faults;
 mod instructions;
+pub mod names;
 mod numerals;
 mod operands;
 mod parts;
