@@ -5,3 +5,5 @@ pub mod Operands
 pub mod Forms
 pub mod Answers
 pub mod Names
+pub mod Values
+pub mod Operations
