@@ -7,3 +7,4 @@ pub mod Answers
 pub mod Names
 pub mod Values
 pub mod Operations
+pub mod Reading

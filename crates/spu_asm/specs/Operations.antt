@@ -8,6 +8,8 @@ use Rattle.spu_asm.specs.declared.operations.Form.TheVariants as form
 use Rattle.spu_asm.specs.declared.operations.Field.{Field}
 use Rattle.spu_asm.specs.declared.operations.Field.TheVariants as field
 use Rattle.spu_asm.specs.declared.operations.Range.{Range}
+use Rattle.spu_asm.specs.declared.operations.Range.TheVariants as range
+use Rattle.spu_asm.specs.declared.operations.Bounds.{Bounds}
 use Rattle.spu_asm.specs.declared.operations.ValueForm.{ValueForm}
 use Rattle.spu_asm.specs.declared.operations.ValueForm.TheVariants as of
 use Rattle.spu_asm.specs.declared.operations.Slot.{Slot}
@@ -208,29 +210,20 @@ abbrev pub number : Range → Slot
 number r = slot.Of (of.Number r)
 
 -- numbers from -low to high, multiples of unit; the field holds the quotient, as a signed number where it is half or more
-abbrev pub range : ℕ → ℕ → ℕ → ℕ → Range
-range low high unit half = record { low = low; high = high; unit = unit; half = half }
+abbrev pub bounds : ℕ → ℕ → ℕ → ℕ → Bounds
+bounds low high unit half = record { low = low; high = high; unit = unit; half = half }
 
-abbrev pub stop_code : Range
-stop_code = range 0 16383 1 131072
-
-abbrev pub ten_bits : Range
-ten_bits = range 512 511 1 512
-
-abbrev pub seven_bits : Range
-seven_bits = range 64 127 1 64
-
-abbrev pub insertion : Range
-insertion = range 64 63 1 64
-
-abbrev pub displacement : Range
-displacement = range 8192 8176 16 512
-
-abbrev pub signed_half : Range
-signed_half = range 32768 32767 1 32768
-
-abbrev pub half : Range
-half = range 32768 65535 1 32768
+abbrev pub bounds_of : Range → Bounds
+bounds_of range.StopCode = bounds 0 16383 1 131072
+bounds_of range.TenBits = bounds 512 511 1 512
+bounds_of range.SevenBits = bounds 64 127 1 64
+bounds_of range.Insertion = bounds 64 63 1 64
+bounds_of range.Displacement = bounds 8192 8176 16 512
+bounds_of range.SignedHalf = bounds 32768 32767 1 32768
+bounds_of range.Half = bounds 32768 65535 1 32768
+bounds_of range.Address = bounds 0 262143 1 262144
+bounds_of range.WordAddress = bounds 0 262140 4 32768
+bounds_of range.WordDistance = bounds 131072 131068 4 32768
 
 abbrev pub high : Slot
 high = slot.Of of.High
@@ -262,17 +255,17 @@ slots_of form.TwoRegisters = rt ∷ comma ∷ ra ∷ []
 slots_of form.ThreeRegisters = rt ∷ comma ∷ ra ∷ comma ∷ rb ∷ []
 slots_of form.FourRegisters = rt ∷ comma ∷ ra ∷ comma ∷ rb ∷ comma ∷ rc ∷ []
 slots_of form.OptionalRegister = register_number ∷ []
-slots_of form.StopCode = number stop_code ∷ []
+slots_of form.StopCode = number range.StopCode ∷ []
 slots_of form.RegisterChannel = rt ∷ comma ∷ channel ∷ []
 slots_of form.ChannelRegister = channel ∷ comma ∷ rt ∷ []
 slots_of form.HaltRegisters = rt ∷ comma ∷ ra ∷ comma ∷ rb ∷ []
-slots_of form.HaltImmediate = rt ∷ comma ∷ ra ∷ comma ∷ number ten_bits ∷ []
-slots_of form.RegistersImmediate7 = rt ∷ comma ∷ ra ∷ comma ∷ number seven_bits ∷ []
-slots_of form.Insertion = rt ∷ comma ∷ number insertion ∷ opening ∷ ra ∷ closing ∷ []
-slots_of form.RegistersImmediate10 = rt ∷ comma ∷ ra ∷ comma ∷ number ten_bits ∷ []
-slots_of form.Displacement = rt ∷ comma ∷ number displacement ∷ opening ∷ ra ∷ closing ∷ []
-slots_of form.RegisterImmediate16 = rt ∷ comma ∷ number signed_half ∷ []
-slots_of form.RegisterHalfword = rt ∷ comma ∷ number half ∷ []
+slots_of form.HaltImmediate = rt ∷ comma ∷ ra ∷ comma ∷ number range.TenBits ∷ []
+slots_of form.RegistersImmediate7 = rt ∷ comma ∷ ra ∷ comma ∷ number range.SevenBits ∷ []
+slots_of form.Insertion = rt ∷ comma ∷ number range.Insertion ∷ opening ∷ ra ∷ closing ∷ []
+slots_of form.RegistersImmediate10 = rt ∷ comma ∷ ra ∷ comma ∷ number range.TenBits ∷ []
+slots_of form.Displacement = rt ∷ comma ∷ number range.Displacement ∷ opening ∷ ra ∷ closing ∷ []
+slots_of form.RegisterImmediate16 = rt ∷ comma ∷ number range.SignedHalf ∷ []
+slots_of form.RegisterHalfword = rt ∷ comma ∷ number range.Half ∷ []
 slots_of form.RegisterHighHalf = rt ∷ comma ∷ high ∷ []
 slots_of form.RegisterLowHalf = rt ∷ comma ∷ low ∷ []
 slots_of form.RegisterAddress = rt ∷ comma ∷ address ∷ []
@@ -288,7 +281,7 @@ abbrev pub short_of : Form → Option (List Slot)
 short_of form.OptionalRegister = Some ([])
 short_of form.StopCode = Some ([])
 short_of form.HaltRegisters = Some (ra ∷ comma ∷ rb ∷ [])
-short_of form.HaltImmediate = Some (ra ∷ comma ∷ number ten_bits ∷ [])
+short_of form.HaltImmediate = Some (ra ∷ comma ∷ number range.TenBits ∷ [])
 short_of _ = None
 
 abbrev pub listed : Bor (List Slot) → List Slot

@@ -10,6 +10,7 @@ mod numerals;
 mod operands;
 
 mod parts;
+pub mod reading;
 pub mod values;
 
 pub use assembler::{assemble, one_answer};

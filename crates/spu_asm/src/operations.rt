@@ -1,8 +1,8 @@
 //! The operands that each operation takes, by SPU ISA 1.2 and SPU Assembly Language.
 
-ghost use Rattle.std.specs.Prelude.{◌≡◌, Option, option_map, List};
+ghost use Rattle.std.specs.Prelude.{◌≡◌, ◌<◌, ◌^◌, Option, option_map, List};
 ghost use Rattle.std.specs.Borrow.{Bor};
-ghost use Rattle.spu_asm.specs.Operations.{form_of, slots_of, short_of, listed};
+ghost use Rattle.spu_asm.specs.Operations.{bounds_of, form_of, slots_of, short_of, listed};
 
 use spu_isa::Op;
 
@@ -74,7 +74,32 @@ pub enum Field {
 
 /// Which numbers an immediate field takes.
 #[derive(Clone, Copy, PartialEq, Eq, Debug)]
-pub struct Range {
+pub enum Range {
+    /// The code of `stop`.
+    StopCode,
+    /// A signed number of ten bits.
+    TenBits,
+    /// A number of seven bits, signed or not.
+    SevenBits,
+    /// A signed number of seven bits.
+    Insertion,
+    /// A signed number of ten bits, in quadwords.
+    Displacement,
+    /// A signed number of 16 bits.
+    SignedHalf,
+    /// A number of 16 bits, signed or not.
+    Half,
+    /// An address of 18 bits.
+    Address,
+    /// An address of 18 bits, in words.
+    WordAddress,
+    /// A distance in bytes, in words.
+    WordDistance,
+}
+
+/// The numbers of a range.
+#[derive(Clone, Copy, PartialEq, Eq, Debug)]
+pub struct Bounds {
     /// How far below 0 the least number lies.
     pub low: u32,
     /// The greatest number.
@@ -139,26 +164,19 @@ const REGISTER_NUMBER: Slot = Slot::RegisterNumber;
 
 const CHANNEL: Slot = Slot::Channel;
 
-/// The code of `stop`.
-const STOP_CODE: Slot = Slot::Of(ValueForm::Number(Range { low: 0, high: 16383, unit: 1, half: 131072 }));
+const STOP_CODE: Slot = Slot::Of(ValueForm::Number(Range::StopCode));
 
-/// A signed number of ten bits.
-const TEN_BITS: Slot = Slot::Of(ValueForm::Number(Range { low: 512, high: 511, unit: 1, half: 512 }));
+const TEN_BITS: Slot = Slot::Of(ValueForm::Number(Range::TenBits));
 
-/// A number of seven bits, signed or not.
-const SEVEN_BITS: Slot = Slot::Of(ValueForm::Number(Range { low: 64, high: 127, unit: 1, half: 64 }));
+const SEVEN_BITS: Slot = Slot::Of(ValueForm::Number(Range::SevenBits));
 
-/// A signed number of seven bits.
-const INSERTION: Slot = Slot::Of(ValueForm::Number(Range { low: 64, high: 63, unit: 1, half: 64 }));
+const INSERTION: Slot = Slot::Of(ValueForm::Number(Range::Insertion));
 
-/// A signed number of ten bits, in quadwords.
-const DISPLACEMENT: Slot = Slot::Of(ValueForm::Number(Range { low: 8192, high: 8176, unit: 16, half: 512 }));
+const DISPLACEMENT: Slot = Slot::Of(ValueForm::Number(Range::Displacement));
 
-/// A signed number of 16 bits.
-const SIGNED_HALF: Slot = Slot::Of(ValueForm::Number(Range { low: 32768, high: 32767, unit: 1, half: 32768 }));
+const SIGNED_HALF: Slot = Slot::Of(ValueForm::Number(Range::SignedHalf));
 
-/// A number of 16 bits, signed or not.
-const HALF: Slot = Slot::Of(ValueForm::Number(Range { low: 32768, high: 65535, unit: 1, half: 32768 }));
+const HALF: Slot = Slot::Of(ValueForm::Number(Range::Half));
 
 const HIGH: Slot = Slot::Of(ValueForm::High);
 
@@ -173,6 +191,26 @@ const RELATIVE: Slot = Slot::Of(ValueForm::Relative);
 const PLACE: Slot = Slot::Of(ValueForm::HintPlace);
 
 const TARGET: Slot = Slot::Of(ValueForm::HintTarget);
+
+/// The bounds of a range.
+pub fn bounds_of(range: Range) -> Bounds
+    ensures value { result ≡ bounds_of range }
+    ensures small { (result.low < 2 ^ 20) × (result.high < 2 ^ 20) × (result.half < 2 ^ 20) }
+    ensures unit { 0 < result.unit }
+{
+    match range {
+        Range::StopCode => Bounds { low: 0, high: 16383, unit: 1, half: 131072 },
+        Range::TenBits => Bounds { low: 512, high: 511, unit: 1, half: 512 },
+        Range::SevenBits => Bounds { low: 64, high: 127, unit: 1, half: 64 },
+        Range::Insertion => Bounds { low: 64, high: 63, unit: 1, half: 64 },
+        Range::Displacement => Bounds { low: 8192, high: 8176, unit: 16, half: 512 },
+        Range::SignedHalf => Bounds { low: 32768, high: 32767, unit: 1, half: 32768 },
+        Range::Half => Bounds { low: 32768, high: 65535, unit: 1, half: 32768 },
+        Range::Address => Bounds { low: 0, high: 262143, unit: 1, half: 262144 },
+        Range::WordAddress => Bounds { low: 0, high: 262140, unit: 4, half: 32768 },
+        Range::WordDistance => Bounds { low: 131072, high: 131068, unit: 4, half: 32768 },
+    }
+}
 
 /// The operands of an operation.
 pub fn form_of(op: Op) -> Form
