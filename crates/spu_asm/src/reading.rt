@@ -396,34 +396,36 @@ fn take_slot<'p, 'a>(slot: Slot, o: Operands<'a>, pieces: &'p [Piece<'a>]) -> Op
 }
 
 /// The operands, where the pieces have these parts and nothing behind them.
-fn read<'a>(slots: &[Slot], pieces: &[Piece<'a>]) -> Option<Operands<'a>>
-    ensures { result ≡ read slots.now empty pieces.now }
+fn read<'p, 'a>(slots: &[Slot], o: Operands<'a>, pieces: &'p [Piece<'a>]) -> Option<Operands<'a>>
+    ensures { result ≡ read slots.now o.entry pieces.now }
 {
-    let mut o = Operands {
-        rt: 0,
-        ra: 0,
-        rb: 0,
-        rc: 0,
-        imm: 0,
-        place: None,
-        target: None,
-        out_of_range: false,
-    };
-    let mut rest = pieces;
-    for slot in slots {
-        let (operands, after) = take_slot(*slot, o, rest)?;
-        o = operands;
-        rest = after;
+    match slots {
+        [] => if pieces.is_empty() { Some(o) } else { None },
+        [slot, more @ ..] => {
+            let (operands, rest) = take_slot(*slot, o, pieces)?;
+            read(more, operands, rest)
+        }
     }
-    if rest.is_empty() { Some(o) } else { None }
 }
+
+/// Operands of which nothing is read yet.
+const NOTHING_READ: Operands<'static> = Operands {
+    rt: 0,
+    ra: 0,
+    rb: 0,
+    rc: 0,
+    imm: 0,
+    place: None,
+    target: None,
+    out_of_range: false,
+};
 
 /// The operands where some are left out.
 fn read_short<'a>(form: Form, pieces: &[Piece<'a>]) -> Option<Operands<'a>>
     ensures { result ≡ shorter form pieces.now }
 {
     match short_slots(form) {
-        Some(slots) => read(slots, pieces),
+        Some(slots) => read(slots, NOTHING_READ, pieces),
         None => None,
     }
 }
@@ -433,7 +435,7 @@ fn operands_of<'a>(op: Op, pieces: &[Piece<'a>]) -> Option<Operands<'a>>
     ensures { result ≡ operands_of op pieces.now }
 {
     let form = form_of(op);
-    match read(slots(form), pieces) {
+    match read(slots(form), NOTHING_READ, pieces) {
         Some(o) => Some(o),
         None => read_short(form, pieces),
     }
