@@ -1,6 +1,5 @@
 -- Numbers below 128, as names have them.
-use Rattle.std.proofs.Common.{◌≡◌, ℕ, ◌<◌, ◌≤◌, ◌^◌, Bool, true, false, cond, get_or, subst, List, length, Option, Some, None, refl, sym, ap, ◌∙◌, arith, IsTrue, inl, inr}
-use Rattle.std.proofs.lemmas.Bool.{cases_Bool}
+use Rattle.std.proofs.Common.{◌≡◌, ℕ, ◌<◌, ◌≤◌, ◌^◌, Bool, true, false, cond, get_or, subst, List, length, Some, None, refl, sym, ap, ◌∙◌, arith}
 use Rattle.std.proofs.lemmas.Bool.Decides.{nat_tests}
 use Rattle.std.specs.List.{list_all}
 use Rattle.std.specs.Char.{is_ascii_digit}
@@ -20,7 +19,7 @@ tells_decimal ds t =
     let some = t.some in
     let empty : (length ds == 0) ≡ false = grind (arith, nat_tests) in
     tests_pass (length ds == 0) (list_all is_ascii_digit ds) (get_or ds 0 0 == 48) (length ds == 1) empty t.digits
-      (λ e. let zero : get_or ds 0 0 ≡ 48 = grind (arith, nat_tests) in let one = t.lead zero in grind (arith, nat_tests))
+    (λ e. let zero : get_or ds 0 0 ≡ 48 = grind (arith, nat_tests) in let one = t.lead zero in grind (arith, nat_tests))
 
 passed : (a b c d : Bool) → (not a && b && (not c || d)) ≡ true → (a ≡ false) × (b ≡ true) × (c ≡ true → d ≡ true)
 passed true b c d e = absurd cc

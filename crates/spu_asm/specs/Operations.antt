@@ -5,12 +5,10 @@ use Rattle.spu_isa.specs.declared.operation.Op.{Op}
 use Rattle.spu_isa.specs.declared.operation.Op.TheVariants as op
 use Rattle.spu_asm.specs.declared.operations.Form.{Form}
 use Rattle.spu_asm.specs.declared.operations.Form.TheVariants as form
-use Rattle.spu_asm.specs.declared.operations.Field.{Field}
 use Rattle.spu_asm.specs.declared.operations.Field.TheVariants as field
 use Rattle.spu_asm.specs.declared.operations.Range.{Range}
 use Rattle.spu_asm.specs.declared.operations.Range.TheVariants as range
 use Rattle.spu_asm.specs.declared.operations.Bounds.{Bounds}
-use Rattle.spu_asm.specs.declared.operations.ValueForm.{ValueForm}
 use Rattle.spu_asm.specs.declared.operations.ValueForm.TheVariants as of
 use Rattle.spu_asm.specs.declared.operations.Slot.{Slot}
 use Rattle.spu_asm.specs.declared.operations.Slot.TheVariants as slot

@@ -25,7 +25,6 @@ use Rattle.spu_asm.specs.declared.operations.Slot.{Slot}
 use Rattle.spu_asm.specs.declared.operations.Slot.TheVariants as slot
 use Rattle.spu_asm.specs.declared.reading.Reference.{Reference}
 use Rattle.spu_asm.specs.declared.reading.Reference.TheVariants as refers
-use Rattle.spu_asm.specs.declared.reading.Target.{Target}
 use Rattle.spu_asm.specs.declared.reading.Operands.{Operands}
 use Rattle.spu_asm.specs.declared.reading.OperandFault.{OperandFault}
 use Rattle.spu_asm.specs.declared.reading.OperandFault.TheVariants as faults

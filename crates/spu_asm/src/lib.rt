@@ -5,10 +5,9 @@ mod assembler;
 mod faults;
 mod instructions;
 pub mod names;
-pub mod operations;
 mod numerals;
 mod operands;
-
+pub mod operations;
 mod parts;
 pub mod reading;
 pub mod values;

@@ -199,16 +199,66 @@ pub fn bounds_of(range: Range) -> Bounds
     ensures unit { 0 < result.unit }
 {
     match range {
-        Range::StopCode => Bounds { low: 0, high: 16383, unit: 1, half: 131072 },
-        Range::TenBits => Bounds { low: 512, high: 511, unit: 1, half: 512 },
-        Range::SevenBits => Bounds { low: 64, high: 127, unit: 1, half: 64 },
-        Range::Insertion => Bounds { low: 64, high: 63, unit: 1, half: 64 },
-        Range::Displacement => Bounds { low: 8192, high: 8176, unit: 16, half: 512 },
-        Range::SignedHalf => Bounds { low: 32768, high: 32767, unit: 1, half: 32768 },
-        Range::Half => Bounds { low: 32768, high: 65535, unit: 1, half: 32768 },
-        Range::Address => Bounds { low: 0, high: 262143, unit: 1, half: 262144 },
-        Range::WordAddress => Bounds { low: 0, high: 262140, unit: 4, half: 32768 },
-        Range::WordDistance => Bounds { low: 131072, high: 131068, unit: 4, half: 32768 },
+        Range::StopCode => Bounds {
+            low: 0,
+            high: 16383,
+            unit: 1,
+            half: 131072,
+        },
+        Range::TenBits => Bounds {
+            low: 512,
+            high: 511,
+            unit: 1,
+            half: 512,
+        },
+        Range::SevenBits => Bounds {
+            low: 64,
+            high: 127,
+            unit: 1,
+            half: 64,
+        },
+        Range::Insertion => Bounds {
+            low: 64,
+            high: 63,
+            unit: 1,
+            half: 64,
+        },
+        Range::Displacement => Bounds {
+            low: 8192,
+            high: 8176,
+            unit: 16,
+            half: 512,
+        },
+        Range::SignedHalf => Bounds {
+            low: 32768,
+            high: 32767,
+            unit: 1,
+            half: 32768,
+        },
+        Range::Half => Bounds {
+            low: 32768,
+            high: 65535,
+            unit: 1,
+            half: 32768,
+        },
+        Range::Address => Bounds {
+            low: 0,
+            high: 262143,
+            unit: 1,
+            half: 262144,
+        },
+        Range::WordAddress => Bounds {
+            low: 0,
+            high: 262140,
+            unit: 4,
+            half: 32768,
+        },
+        Range::WordDistance => Bounds {
+            low: 131072,
+            high: 131068,
+            unit: 4,
+            half: 32768,
+        },
     }
 }
 
@@ -220,26 +270,59 @@ pub fn form_of(op: Op) -> Form
         Op::Stop => Form::StopCode,
         Op::Lnop | Op::Sync | Op::Dsync => Form::NoOperands,
         Op::Rdch | Op::Rchcnt => Form::RegisterChannel,
-        Op::Ori | Op::Orhi | Op::Orbi | Op::Sfi | Op::Sfhi | Op::Andi | Op::Andhi | Op::Andbi => Form::RegistersImmediate10,
-        Op::Ai | Op::Ahi | Op::Xori | Op::Xorhi | Op::Xorbi | Op::Cgti | Op::Cgthi | Op::Cgtbi => Form::RegistersImmediate10,
-        Op::Clgti | Op::Clgthi | Op::Clgtbi | Op::Mpyi | Op::Mpyui | Op::Ceqi | Op::Ceqhi | Op::Ceqbi => Form::RegistersImmediate10,
-        Op::Sf | Op::Or | Op::Bg | Op::Sfh | Op::Nor | Op::Absdb | Op::Rot | Op::Rotm => Form::ThreeRegisters,
-        Op::Rotma | Op::Shl | Op::Roth | Op::Rothm | Op::Rotmah | Op::Shlh | Op::A | Op::And => Form::ThreeRegisters,
-        Op::Cg | Op::Ah | Op::Nand | Op::Avgb | Op::Stqx | Op::Lqx | Op::Rotqbybi | Op::Shlqbybi => Form::ThreeRegisters,
-        Op::Cbx | Op::Chx | Op::Cwx | Op::Cdx | Op::Rotqbi | Op::Rotqmbi | Op::Shlqbi | Op::Rotqby => Form::ThreeRegisters,
-        Op::Rotqmby | Op::Shlqby | Op::Cgt | Op::Xor | Op::Cgth | Op::Eqv | Op::Cgtb | Op::Sumb => Form::ThreeRegisters,
-        Op::Clgt | Op::Andc | Op::Clgth | Op::Orc | Op::Clgtb | Op::Addx | Op::Sfx | Op::Cgx => Form::ThreeRegisters,
-        Op::Bgx | Op::Mpyhha | Op::Mpyhhau | Op::Ceq | Op::Mpy | Op::Mpyh | Op::Mpyhh | Op::Mpys => Form::ThreeRegisters,
+        Op::Ori | Op::Orhi | Op::Orbi | Op::Sfi | Op::Sfhi | Op::Andi | Op::Andhi | Op::Andbi =>
+            Form::RegistersImmediate10,
+        Op::Ai | Op::Ahi | Op::Xori | Op::Xorhi | Op::Xorbi | Op::Cgti | Op::Cgthi | Op::Cgtbi =>
+            Form::RegistersImmediate10,
+        Op::Clgti
+        | Op::Clgthi
+        | Op::Clgtbi
+        | Op::Mpyi
+        | Op::Mpyui
+        | Op::Ceqi
+        | Op::Ceqhi
+        | Op::Ceqbi => Form::RegistersImmediate10,
+        Op::Sf | Op::Or | Op::Bg | Op::Sfh | Op::Nor | Op::Absdb | Op::Rot | Op::Rotm =>
+            Form::ThreeRegisters,
+        Op::Rotma | Op::Shl | Op::Roth | Op::Rothm | Op::Rotmah | Op::Shlh | Op::A | Op::And =>
+            Form::ThreeRegisters,
+        Op::Cg | Op::Ah | Op::Nand | Op::Avgb | Op::Stqx | Op::Lqx | Op::Rotqbybi | Op::Shlqbybi =>
+            Form::ThreeRegisters,
+        Op::Cbx
+        | Op::Chx
+        | Op::Cwx
+        | Op::Cdx
+        | Op::Rotqbi
+        | Op::Rotqmbi
+        | Op::Shlqbi
+        | Op::Rotqby => Form::ThreeRegisters,
+        Op::Rotqmby | Op::Shlqby | Op::Cgt | Op::Xor | Op::Cgth | Op::Eqv | Op::Cgtb | Op::Sumb =>
+            Form::ThreeRegisters,
+        Op::Clgt | Op::Andc | Op::Clgth | Op::Orc | Op::Clgtb | Op::Addx | Op::Sfx | Op::Cgx =>
+            Form::ThreeRegisters,
+        Op::Bgx | Op::Mpyhha | Op::Mpyhhau | Op::Ceq | Op::Mpy | Op::Mpyh | Op::Mpyhh | Op::Mpys =>
+            Form::ThreeRegisters,
         Op::Ceqh | Op::Mpyu | Op::Mpyhhu | Op::Ceqb => Form::ThreeRegisters,
-        Op::Roti | Op::Rotmi | Op::Rotmai | Op::Shli | Op::Rothi | Op::Rothmi | Op::Rotmahi | Op::Shlhi => Form::RegistersImmediate7,
-        Op::Rotqbii | Op::Rotqmbii | Op::Shlqbii | Op::Rotqbyi | Op::Rotqmbyi | Op::Shlqbyi => Form::RegistersImmediate7,
+        Op::Roti
+        | Op::Rotmi
+        | Op::Rotmai
+        | Op::Shli
+        | Op::Rothi
+        | Op::Rothmi
+        | Op::Rotmahi
+        | Op::Shlhi => Form::RegistersImmediate7,
+        Op::Rotqbii | Op::Rotqmbii | Op::Shlqbii | Op::Rotqbyi | Op::Rotqmbyi | Op::Shlqbyi =>
+            Form::RegistersImmediate7,
         Op::Hbra | Op::Hbrr => Form::PlaceTarget,
-        Op::Brz | Op::Brnz | Op::Brhz | Op::Brhnz | Op::Stqr | Op::Brsl | Op::Lqr => Form::RegisterRelative,
+        Op::Brz | Op::Brnz | Op::Brhz | Op::Brhnz | Op::Stqr | Op::Brsl | Op::Lqr =>
+            Form::RegisterRelative,
         Op::Stqa | Op::Lqa | Op::Brasl => Form::RegisterAbsolute,
         Op::Wrch => Form::ChannelRegister,
         Op::Stqd | Op::Lqd => Form::Displacement,
-        Op::Biz | Op::Binz | Op::Bihz | Op::Bihnz | Op::Bisl | Op::Gb | Op::Gbh | Op::Gbb => Form::TwoRegisters,
-        Op::Fsm | Op::Fsmh | Op::Fsmb | Op::Orx | Op::Clz | Op::Xswd | Op::Xshw | Op::Cntb => Form::TwoRegisters,
+        Op::Biz | Op::Binz | Op::Bihz | Op::Bihnz | Op::Bisl | Op::Gb | Op::Gbh | Op::Gbb =>
+            Form::TwoRegisters,
+        Op::Fsm | Op::Fsmh | Op::Fsmb | Op::Orx | Op::Clz | Op::Xswd | Op::Xshw | Op::Cntb =>
+            Form::TwoRegisters,
         Op::Xsbh => Form::TwoRegisters,
         Op::Bra => Form::Absolute,
         Op::Br => Form::Relative,
@@ -301,8 +384,27 @@ pub fn short_slots(form: Form) -> Option<&'static [Slot]>
         Form::StopCode => Some(&[]),
         Form::HaltRegisters => Some(&[RA, COMMA, RB]),
         Form::HaltImmediate => Some(&[RA, COMMA, TEN_BITS]),
-        Form::NoOperands | Form::OneRegister | Form::TwoRegisters | Form::ThreeRegisters | Form::FourRegisters | Form::RegisterChannel | Form::ChannelRegister | Form::RegistersImmediate7 => None,
-        Form::Insertion | Form::RegistersImmediate10 | Form::Displacement | Form::RegisterImmediate16 | Form::RegisterHalfword | Form::RegisterHighHalf | Form::RegisterLowHalf | Form::RegisterAddress => None,
-        Form::Absolute | Form::RegisterAbsolute | Form::Relative | Form::RegisterRelative | Form::PlaceRegister | Form::PlaceTarget => None,
+        Form::NoOperands
+        | Form::OneRegister
+        | Form::TwoRegisters
+        | Form::ThreeRegisters
+        | Form::FourRegisters
+        | Form::RegisterChannel
+        | Form::ChannelRegister
+        | Form::RegistersImmediate7 => None,
+        Form::Insertion
+        | Form::RegistersImmediate10
+        | Form::Displacement
+        | Form::RegisterImmediate16
+        | Form::RegisterHalfword
+        | Form::RegisterHighHalf
+        | Form::RegisterLowHalf
+        | Form::RegisterAddress => None,
+        Form::Absolute
+        | Form::RegisterAbsolute
+        | Form::Relative
+        | Form::RegisterRelative
+        | Form::PlaceRegister
+        | Form::PlaceTarget => None,
     }
 }

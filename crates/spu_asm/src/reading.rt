@@ -6,7 +6,9 @@ ghost use Rattle.spu_asm.specs.Values.{behind};
 ghost use Rattle.spu_asm.specs.Reading.{scaled, quotient, signed_number, addend_of, place_field, with_field, with_number, with_small, with_target, with_place, with_place_symbol, with_plain, with_relative, with_address, with_half, with_hint_place, with_value, take_register, take_value, take_number, take_register_number, take_channel, take_sign, take_slot, read, empty, operands_of, shorter, inst_of, Builds};
 
 use crate::names::{channel_of, is_suffixed, register_of};
-use crate::operations::{Bounds, Field, Form, Range, Slot, ValueForm, bounds_of, form_of, short_slots, slots};
+use crate::operations::{
+    Bounds, Field, Form, Range, Slot, ValueForm, bounds_of, form_of, short_slots, slots,
+};
 use crate::values::{Offset, Piece, Value, value_of};
 use spu_isa::{Inst, Op};
 
@@ -89,7 +91,11 @@ fn signed_number(range: Range, number: Offset) -> Option<i32>
     ensures { result ≡ signed_number range number }
 {
     let bounds = bounds_of(range);
-    let most = if number.negative { bounds.low } else { bounds.high };
+    let most = if number.negative {
+        bounds.low
+    } else {
+        bounds.high
+    };
     quotient(bounds, number, most)
 }
 
@@ -219,7 +225,12 @@ fn with_place_symbol<'a>(word: &'a [u8], number: Offset, o: Operands<'a>) -> Ope
 }
 
 /// With a symbol that the instruction refers to, or an addend out of range.
-fn with_target<'a>(word: &'a [u8], reference: Reference, number: Offset, o: Operands<'a>) -> Operands<'a>
+fn with_target<'a>(
+    word: &'a [u8],
+    reference: Reference,
+    number: Offset,
+    o: Operands<'a>,
+) -> Operands<'a>
     ensures { result ≡ with_target word.entry reference (addend_of number) o.entry }
 {
     match addend_of(number) {
@@ -260,7 +271,12 @@ fn with_relative<'a>(value: Value<'a>, o: Operands<'a>) -> Option<Operands<'a>>
 }
 
 /// A number, or a symbol.
-fn with_address<'a>(range: Range, reference: Reference, value: Value<'a>, o: Operands<'a>) -> Option<Operands<'a>>
+fn with_address<'a>(
+    range: Range,
+    reference: Reference,
+    value: Value<'a>,
+    o: Operands<'a>,
+) -> Option<Operands<'a>>
     ensures { result ≡ with_address range reference value.entry o.entry }
 {
     match value {
@@ -272,7 +288,12 @@ fn with_address<'a>(range: Range, reference: Reference, value: Value<'a>, o: Ope
 
 /// A number of 16 bits, or a symbol with a suffix.
 #[tactic(auto, unfolding(crate::specs::Reading::with_half))]
-fn with_half<'a>(letter: u8, reference: Reference, value: Value<'a>, o: Operands<'a>) -> Option<Operands<'a>>
+fn with_half<'a>(
+    letter: u8,
+    reference: Reference,
+    value: Value<'a>,
+    o: Operands<'a>,
+) -> Option<Operands<'a>>
     ensures { result ≡ with_half letter reference value.entry o.entry }
 {
     match value {
@@ -315,7 +336,11 @@ fn with_value<'a>(form: ValueForm, value: Value<'a>, o: Operands<'a>) -> Option<
 }
 
 /// A register at the front of the pieces.
-fn take_register<'p, 'a>(field: Field, o: Operands<'a>, pieces: &'p [Piece<'a>]) -> Option<(Operands<'a>, &'p [Piece<'a>])>
+fn take_register<'p, 'a>(
+    field: Field,
+    o: Operands<'a>,
+    pieces: &'p [Piece<'a>],
+) -> Option<(Operands<'a>, &'p [Piece<'a>])>
     ensures { option_map behind result ≡ take_register field o.entry pieces.now }
 {
     match pieces {
@@ -329,7 +354,11 @@ fn take_register<'p, 'a>(field: Field, o: Operands<'a>, pieces: &'p [Piece<'a>])
 
 /// A value at the front of the pieces.
 #[tactic(auto, unfolding(crate::specs::Reading::take_value))]
-fn take_value<'p, 'a>(form: ValueForm, o: Operands<'a>, pieces: &'p [Piece<'a>]) -> Option<(Operands<'a>, &'p [Piece<'a>])>
+fn take_value<'p, 'a>(
+    form: ValueForm,
+    o: Operands<'a>,
+    pieces: &'p [Piece<'a>],
+) -> Option<(Operands<'a>, &'p [Piece<'a>])>
     ensures { option_map behind result ≡ take_value form o.entry pieces.now }
 {
     let (value, rest) = value_of(pieces)?;
@@ -338,7 +367,11 @@ fn take_value<'p, 'a>(form: ValueForm, o: Operands<'a>, pieces: &'p [Piece<'a>])
 
 /// A number below 128 at the front of the pieces.
 #[tactic(auto, unfolding(crate::specs::Reading::take_number))]
-fn take_number<'p, 'a>(field: Field, o: Operands<'a>, pieces: &'p [Piece<'a>]) -> Option<(Operands<'a>, &'p [Piece<'a>])>
+fn take_number<'p, 'a>(
+    field: Field,
+    o: Operands<'a>,
+    pieces: &'p [Piece<'a>],
+) -> Option<(Operands<'a>, &'p [Piece<'a>])>
     ensures { option_map behind result ≡ take_number field o.entry pieces.now }
 {
     let (value, rest) = value_of(pieces)?;
@@ -349,7 +382,10 @@ fn take_number<'p, 'a>(field: Field, o: Operands<'a>, pieces: &'p [Piece<'a>]) -
 }
 
 /// A register, or its number.
-fn take_register_number<'p, 'a>(o: Operands<'a>, pieces: &'p [Piece<'a>]) -> Option<(Operands<'a>, &'p [Piece<'a>])>
+fn take_register_number<'p, 'a>(
+    o: Operands<'a>,
+    pieces: &'p [Piece<'a>],
+) -> Option<(Operands<'a>, &'p [Piece<'a>])>
     ensures { option_map behind result ≡ take_register_number o.entry pieces.now }
 {
     match pieces {
@@ -359,7 +395,10 @@ fn take_register_number<'p, 'a>(o: Operands<'a>, pieces: &'p [Piece<'a>]) -> Opt
 }
 
 /// A channel, or its number.
-fn take_channel<'p, 'a>(o: Operands<'a>, pieces: &'p [Piece<'a>]) -> Option<(Operands<'a>, &'p [Piece<'a>])>
+fn take_channel<'p, 'a>(
+    o: Operands<'a>,
+    pieces: &'p [Piece<'a>],
+) -> Option<(Operands<'a>, &'p [Piece<'a>])>
     ensures { option_map behind result ≡ take_channel o.entry pieces.now }
 {
     match pieces {
@@ -372,7 +411,11 @@ fn take_channel<'p, 'a>(o: Operands<'a>, pieces: &'p [Piece<'a>]) -> Option<(Ope
 }
 
 /// A byte at the front of the pieces.
-fn take_sign<'p, 'a>(sign: u8, o: Operands<'a>, pieces: &'p [Piece<'a>]) -> Option<(Operands<'a>, &'p [Piece<'a>])>
+fn take_sign<'p, 'a>(
+    sign: u8,
+    o: Operands<'a>,
+    pieces: &'p [Piece<'a>],
+) -> Option<(Operands<'a>, &'p [Piece<'a>])>
     ensures { option_map behind result ≡ take_sign sign o.entry pieces.now }
 {
     match pieces {
@@ -383,7 +426,11 @@ fn take_sign<'p, 'a>(sign: u8, o: Operands<'a>, pieces: &'p [Piece<'a>]) -> Opti
 
 /// A part at the front of the pieces.
 #[tactic(auto, unfolding(crate::specs::Reading::take_slot))]
-fn take_slot<'p, 'a>(slot: Slot, o: Operands<'a>, pieces: &'p [Piece<'a>]) -> Option<(Operands<'a>, &'p [Piece<'a>])>
+fn take_slot<'p, 'a>(
+    slot: Slot,
+    o: Operands<'a>,
+    pieces: &'p [Piece<'a>],
+) -> Option<(Operands<'a>, &'p [Piece<'a>])>
     ensures { option_map behind result ≡ take_slot slot o.entry pieces.now }
 {
     match slot {
@@ -464,4 +511,64 @@ pub fn build<'a>(op: Op, pieces: &[Piece<'a>]) -> Result<Built<'a>, OperandFault
         place: o.place,
         target: o.target,
     })
+}
+
+#[cfg(test)]
+mod tests {
+    use super::*;
+    use std::test::Fail;
+
+    const RANGE: Option<OperandFault> = Some(OperandFault::Range);
+
+    const BAD: Option<OperandFault> = Some(OperandFault::BadOperand);
+
+    #[test]
+    fn a_store_and_a_call(rt: HostRuntime) -> Result<(), Fail> {
+        let store = [
+            Piece::Word(b"$0"),
+            Piece::Mark(b','),
+            Piece::Mark(b'-'),
+            Piece::Number(32),
+            Piece::Mark(b'('),
+            Piece::Word(b"$sp"),
+            Piece::Mark(b')'),
+        ];
+        let built = build(Op::Stqd, &store).ok().ok_or("store")?;
+        assert_eq!(rt; (built.inst.ra, built.inst.imm), (1, -2));
+        let call = [
+            Piece::Word(b"$lr"),
+            Piece::Mark(b','),
+            Piece::Word(b"f"),
+            Piece::Mark(b'+'),
+            Piece::Number(4),
+        ];
+        let built = build(Op::Brsl, &call).ok().ok_or("call")?;
+        assert_eq!(rt;
+            built.target,
+            Some(Target {
+                word: b"f",
+                reference: Reference::Relative,
+                addend: 4
+            })
+        );
+        Ok(())
+    }
+
+    #[test]
+    fn faults_of_operands(rt: HostRuntime) -> Result<(), Fail> {
+        assert_eq!(rt; build(Op::Nop, &[]).err(), None);
+        assert_eq!(rt; build(Op::Nop, &[Piece::Number(127)]).err(), None);
+        assert_eq!(rt; build(Op::Nop, &[Piece::Number(128)]).err(), RANGE);
+        assert_eq!(rt; build(Op::Lnop, &[Piece::Number(1)]).err(), BAD);
+        let three = [Piece::Word(b"$3"), Piece::Mark(b','), Piece::Word(b"$4")];
+        assert_eq!(rt; build(Op::Heq, &three).err(), None);
+        assert_eq!(rt; build(Op::A, &three).err(), BAD);
+        let here = [Piece::Word(b"$3"), Piece::Mark(b','), Piece::Word(b".")];
+        assert_eq!(rt; build(Op::Ila, &here).err(), BAD);
+        assert_eq!(rt; build(Op::Lqr, &here).err(), None);
+        let high = [Piece::Word(b"$3"), Piece::Mark(b','), Piece::Word(b"x@h")];
+        assert_eq!(rt; build(Op::Ilhu, &high).err(), None);
+        assert_eq!(rt; build(Op::Iohl, &high).err(), BAD);
+        Ok(())
+    }
 }

@@ -1,4 +1,4 @@
-use Rattle.std.proofs.Common.{◌≡◌, ◌<◌, ◌^◌, sym, rules}
+use Rattle.std.proofs.Common.{◌<◌, ◌^◌, sym, rules}
 use Rattle.spu_asm.proofs.NameLemmas.{named_small, named_large}
 use Rattle.spu_asm.proofs.names.number_below_128.Goals as goal
 
