@@ -1,8 +1,8 @@
 -- Lines that the form allows, in their places.
-use Rattle.std.proofs.Common.{◌≡◌, ◌≢◌, ℕ, zero, suc, ◌+◌, ◌*◌, ◌<◌, ◌≤◌, ◌^◌, List, [], ◌∷◌, ◌++◌, length, refl, sym, ap, subst, ◌∙◌, arith, append_assoc, append-nil, codes, ◌⊎◌, inl, inr, pos, rules, true, false}
+use Rattle.std.proofs.Common.{◌≡◌, ℕ, suc, ◌+◌, ◌<◌, ◌≤◌, List, [], ◌∷◌, ◌++◌, length, refl, sym, ap, subst, ◌∙◌, arith, append_assoc, append-nil, codes, ◌⊎◌, inl, inr, pos, rules, true, false}
 use Rattle.std.specs.Prelude.{◌==◌}
 use Rattle.std.proofs.lemmas.Bool.Decides.{nat_tests}
-use Rattle.std.specs.List.{AllByRecursion, flat_map}
+use Rattle.std.specs.List.{AllByRecursion}
 use Rattle.std.proofs.lemmas.List.{length-append}
 use Rattle.std.proofs.lemmas.Grind.{flat_map-append}
 use Rattle.spu_word.specs.Bytes.{be_digits}
@@ -13,7 +13,7 @@ use Rattle.spu_isa.specs.declared.instruction.Inst.{Inst}
 use Rattle.spu_elf.specs.First.{MayStand}
 use Rattle.spu_asm.specs.Parts.{Lacks, Parts}
 use Rattle.spu_asm.specs.Lines.{Says, operands}
-use Rattle.spu_asm.specs.Forms.{Line, ended, first_lines, last_line, lines_round, IsBody, IsForm, IsWordOf, AreWords, Begins, IsFaultAt}
+use Rattle.spu_asm.specs.Forms.{Line, ended, first_lines, last_line, IsForm, IsWordOf, AreWords, Begins, IsFaultAt}
 use Rattle.spu_asm.specs.Answers.{HasCode, HasRead}
 use Rattle.spu_asm.proofs.PartsLemmas.{one_front, no_parts}
 

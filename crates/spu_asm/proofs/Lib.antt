@@ -5,3 +5,4 @@ pub mod LineLemmas
 pub mod FormLemmas
 pub mod ObjectLemmas
 pub mod OneAnswer
+pub mod NameLemmas

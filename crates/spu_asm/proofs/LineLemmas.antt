@@ -1,5 +1,5 @@
 -- The mnemonic of a line stands before its first blank.
-use Rattle.std.proofs.Common.{◌≡◌, ◌≢◌, ℕ, List, [], ◌∷◌, ◌++◌, refl, sym, ap, ◌∙◌, arith, append_assoc, codes, subst, rules}
+use Rattle.std.proofs.Common.{◌≡◌, ℕ, List, ◌∷◌, ◌++◌, sym, codes, subst, rules}
 use Rattle.spu_isa.specs.Table.{row_of}
 use Rattle.spu_isa.specs.declared.operation.Op.{Op}
 use Rattle.spu_isa.specs.declared.operation.Op.TheVariants as op
@@ -7,7 +7,7 @@ use Rattle.spu_isa.specs.declared.instruction.Inst.{Inst}
 use Rattle.spu_elf.specs.First.{MayStand}
 use Rattle.spu_asm.specs.Parts.{Lacks}
 use Rattle.spu_asm.specs.Lines.{Says, operands}
-use Rattle.spu_asm.proofs.PartsLemmas.{same_parts, lacks_no_part, lacks_by_index}
+use Rattle.spu_asm.proofs.PartsLemmas.{same_parts, lacks_no_part}
 
 -- of an operation that may stand, the mnemonic has no blank, and the operands begin with one
 blank_first : (o : Op) (x : Inst) (name text : List ℕ) → MayStand o x.rt x.ra → Lacks 32 name → name ++ 32 ∷ text ≡ (row_of o).name ++ operands o x → (row_of o).name ≡ name

@@ -1,5 +1,5 @@
 -- A number and its decimal text.
-use Rattle.std.proofs.Common.{◌≡◌, ◌≢◌, ℕ, zero, suc, ◌+◌, ◌-◌, ◌<◌, ◌≤◌, ◌^◌, Bool, true, false, List, [], ◌∷◌, ◌++◌, length, get_or, Result, Ok, Err, refl, sym, ap, ◌∙◌, arith, rules, take, drop, Option, Some, None, IfSome, ℤ, pos, negsuc, ◌≤ℤ◌}
+use Rattle.std.proofs.Common.{◌≡◌, ◌≢◌, ℕ, zero, suc, ◌-◌, ◌<◌, ◌≤◌, ◌^◌, true, List, length, get_or, Result, Ok, Err, refl, sym, ap, ◌∙◌, arith, rules, take, drop, Some, IfSome, ℤ, pos, negsuc, ◌≤ℤ◌}
 use borrow.Author.Differences.{ints}
 use Rattle.std.specs.Result.{result_ok}
 use Rattle.std.proofs.lemmas.List.{take_all, length-drop}
@@ -7,10 +7,10 @@ use Rattle.std.specs.Fmt.{decimal, signed_decimal}
 use Rattle.std.specs.Str.{IsUtf8}
 use Rattle.std.specs.List.{list_all}
 use Rattle.std.specs.Char.{is_ascii_digit}
-use Rattle.std.specs.Str.Parse.{digits_value, ParsesUnsigned, without_leading_plus, IsNumeral}
+use Rattle.std.specs.Str.Parse.{digits_value, ParsesUnsigned}
 use Rattle.std.proofs.lemmas.Str.{IsUtf8-from_ascii}
-use Rattle.std.proofs.lemmas.Str.Parse.{IsNumeralModel, numerals_by_value, IsDigitsTest, without_leading_plus_none, digit_at, digits_value_short}
-use Rattle.std.proofs.lemmas.Fmt.{decimal_nonempty, digits_decimal, first_decimal, decimal_digit, decimal-digits_value, IsAscii-decimal, parse-decimal}
+use Rattle.std.proofs.lemmas.Str.Parse.{IsNumeralModel, numerals_by_value, IsDigitsTest, without_leading_plus_none, digit_at}
+use Rattle.std.proofs.lemmas.Fmt.{decimal_nonempty, digits_decimal, first_decimal, decimal_digit, decimal-digits_value, digits_value-decimal, IsAscii-decimal, parse-decimal}
 use Rattle.spu_asm.specs.Numerals.{IsDecimalText}
 
 abbrev IsDigits : List ℕ → Type 0
@@ -76,3 +76,6 @@ pub record IsNegative (digits : List ℕ) (z : ℤ) : Type 0 where
 pub negative_of : (text : List ℕ) (z : ℤ) → negsuc 32767 ≤ℤ z → z ≤ℤ pos 32767 → text ≡ signed_decimal z → get_or text 0 0 ≡ 45 → IsNegative (take (length text - 1) (drop 1 text)) z
 negative_of text (pos n) low high e minus = let small : n ≤ 32767 = omega (arith, ints, high) in absurd (omega (arith, (digit_of (decimal n) (decimal_text n (omega arith)) 0 (decimal_nonempty n (omega arith))).0, minus, ap (λ (t : List ℕ). get_or t 0 0) e))
 negative_of text (negsuc n) low high e minus = record { below = n; is = refl; small = omega (arith, ints, low); text = tail_of text ∙ ap (drop 1) e }
+
+pub decimal_value : (n : ℕ) → n < 2 ^ 64 → digits_value 10 (decimal n) ≡ n
+decimal_value n h = digits_value-decimal own n h

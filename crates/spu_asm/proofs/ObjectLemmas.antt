@@ -1,12 +1,11 @@
 -- The object of a text of the first form is of the first form.
-use Rattle.std.proofs.Common.{◌≡◌, ◌≢◌, ℕ, zero, suc, ◌+◌, ◌*◌, ◌/◌, ◌%◌, ◌<◌, ◌≤◌, ◌^◌, List, [], ◌∷◌, ◌++◌, length, get_or, true, refl, sym, ap, subst, ◌∙◌, arith, codes, rules}
+use Rattle.std.proofs.Common.{◌≡◌, ℕ, zero, suc, ◌+◌, ◌*◌, ◌/◌, ◌%◌, ◌<◌, ◌≤◌, ◌^◌, List, [], ◌∷◌, ◌++◌, length, get_or, true, refl, sym, ap, subst, ◌∙◌, arith, codes}
 use lib.Count.{ones}
 use Rattle.std.specs.Int.{is_power_of_two}
 use Rattle.std.specs.List.{flat_map}
-use Rattle.std.proofs.lemmas.List.{length-append}
 use Rattle.spu_word.specs.Bytes.{be_digits, be_number}
-use Rattle.spu_word.proofs.Stands.{Stands, stands_number}
-use Rattle.spu_elf.specs.First.{IsFirstWord, IsFirstSection, IsFirst, object_of}
+use Rattle.spu_word.proofs.Stands.{stands_number}
+use Rattle.spu_elf.specs.First.{IsFirstWord, IsFirst, object_of}
 use Rattle.spu_elf.specs.declared.objects.Object.{Object}
 use Rattle.spu_asm.specs.Forms.{Line, AreWords, text_section, Assembles, ended, first_lines, last_line}
 use Rattle.spu_asm.proofs.FormLemmas.{ended-append}

@@ -4,3 +4,7 @@ pub mod Lines
 pub mod Operands
 pub mod Forms
 pub mod Answers
+pub mod Names
+pub mod Values
+pub mod Operations
+pub mod Reading

@@ -1,7 +1,7 @@
 -- What a call of the tool does: the status that it answers, the file that it writes, and the text that it puts, by its
 -- words and by the bytes of its input. Words are judged first; then the input is read, then it is judged, then the
 -- output file is written, and last the text is put.
-use Rattle.std.specs.Prelude.{◌≡◌, ℕ, ◌++◌, ◌∷◌, [], ◌⊎◌, List, Option, Some, None, codes}
+use Rattle.std.specs.Prelude.{◌≡◌, ◌≢◌, ℕ, ◌++◌, ◌∷◌, [], ◌⊎◌, List, Option, Some, None, codes}
 use Rattle.std.specs.Fmt.{decimal}
 use Rattle.spu_io.specs.Outside.{Names, Last, Read, Write, Rose, ReadOf, Wrote, Spoiled, Gained, GainedPrefix}
 use Rattle.spu_tool.specs.Words.{verb_named, operand, steps_of, word_fault}
@@ -56,6 +56,7 @@ pub record IsUnwritten (m : Made) (output : List ℕ) (answer : Status) (a b : S
 
 -- the text could not be put; the file is written
 pub record IsUnput (m : Made) (output : List ℕ) (answer : Status) (a b : Seen) : Type 0 where
+  pub some : m.text ≢ []
   pub answered : answer ≡ status.WriteFault
   pub rose : Rose a.sink_faults b.sink_faults
   pub file : HoldsFile m.file output a.held b.held
@@ -72,6 +73,7 @@ pub record IsEarly (answer : Status) (a b : Seen) : Type 0 where
 
 -- memory ran out in the put; the file is written
 pub record IsLate (m : Made) (output : List ℕ) (answer : Status) (a b : Seen) : Type 0 where
+  pub some : m.text ≢ []
   pub answered : answer ≡ status.OutOfMemory
   pub file : HoldsFile m.file output a.held b.held
   pub text : GainedPrefix a.written b.written m.text
@@ -109,12 +111,12 @@ pub data Outcome (input output : List ℕ) (makes : List ℕ → Made → Type 0
 
 -- ---- a faulty word
 
--- a put of this text with this status: done, failed after a prefix, or out of memory after a prefix
+-- a put of this text with this status: done, or, where there is some text, failed or out of memory after a prefix
 abbrev pub Puts : Status → List ℕ → Status → Option (List ℕ) → Option (List ℕ) → ℕ → ℕ → Type 0
 Puts wanted text answer before now faults faults_now =
     ((answer ≡ wanted) × Gained before now text × (faults_now ≡ faults))
-    ⊎ (((answer ≡ status.WriteFault) × Rose faults faults_now × GainedPrefix before now text)
-    ⊎ ((answer ≡ status.OutOfMemory) × (faults_now ≡ faults) × GainedPrefix before now text))
+    ⊎ (((text ≢ []) × (answer ≡ status.WriteFault) × Rose faults faults_now × GainedPrefix before now text)
+    ⊎ ((text ≢ []) × (answer ≡ status.OutOfMemory) × (faults_now ≡ faults) × GainedPrefix before now text))
 
 abbrev pub words_line : ℕ → List ℕ
 words_line n = codes "words " ++ decimal n ++ 10 ∷ []
