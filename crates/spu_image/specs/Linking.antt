@@ -2,7 +2,7 @@
 use Rattle.std.specs.Prelude.{◌≡◌, ℕ, List, [], ◌∷◌}
 use Rattle.spu_elf.specs.declared.objects.Object.{Object}
 use Rattle.spu_elf.specs.declared.objects.Exec.{Exec}
-use Rattle.spu_elf.specs.First.{IsFirst}
+use Rattle.spu_lift.specs.FirstForm.{IsFirst}
 use Rattle.spu_elf.specs.Validity.{IsValidExec}
 use Rattle.spu_elf.specs.Spelling.{spell_exec}
 use Rattle.spu_lift.specs.First.{StandsFor}

@@ -1,13 +1,13 @@
 //! The link of one object.
 
 ghost use Rattle.std.specs.Prelude.{◌≡◌, ◌∷◌, [], ℕ, codes, IfOk, Err};
-ghost use Rattle.spu_elf.specs.First.{IsFirst};
+ghost use Rattle.spu_lift.specs.FirstForm.{IsFirst};
 ghost use Rattle.spu_image.specs.declared.outcome.LinkFault.TheVariants.{NotBuilt};
 ghost use Rattle.spu_image.specs.Linking.{IsOneFirst, IsLinked};
 
 use crate::outcome::{LinkFault, LinkOptions, Linked};
-use spu_elf::{Object, Section, first_image, is_first, write_exec};
-use spu_lift::lift_first;
+use spu_elf::{Object, Section, first_image, write_exec};
+use spu_lift::{is_first, lift_first};
 use spu_word::Seq;
 use std::alloc::Global;
 

@@ -1,2 +1,3 @@
 pub mod StartCode
+pub mod FirstForm
 pub mod First

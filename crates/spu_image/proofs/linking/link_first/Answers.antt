@@ -13,4 +13,4 @@ pub returns-clause-linked : goal.returns-clause-linked
 returns-clause-linked c =
     linked_is c.args.object.now c.requires c.in_ok-prog.prog c.in_ok-prog.ensures c.in_ok-exec.exec c.in_ok-file.file
     (c.in_ok-exec.ensures ∙ ap image_of c.as_slice.ensures ∙ ap image_of (section_is c.args.object.now c.text_section-section.result.now c.in_ok-prog.prog c.in_ok-prog.ensures c.text_section-section.ensures))
-    c.in_ok-file.ensures
+    c.in_ok-file.ensures.spelling
