@@ -1,3 +1,4 @@
 pub mod NumberSteps
 pub mod ScanSteps
 pub mod LineSteps
+pub mod FrontSteps

@@ -9,4 +9,4 @@ mod scanning;
 mod tests;
 
 pub use lexemes::{TextFault, Token, TokenKind};
-pub use lines::tokens;
+pub use lines::{Front, front_tokens, line_count, tokens};

@@ -1,23 +1,7 @@
-use Rattle.std.proofs.Common.{arith, length, ◌<◌, ◌∙◌, ap, Err}
-use Rattle.std.proofs.lemmas.Result.{err_from_is_err_and}
-use Rattle.std.proofs.lemmas.Bool.Decides.{nat_tests}
-use Rattle.spu_text.proofs.LineSteps.{lines_step, lines_fault, gives_fault}
+use Rattle.std.proofs.Common.{arith, ap}
+use Rattle.spu_text.specs.Texts.{lines_read}
+use Rattle.spu_text.proofs.LineSteps.{all_lines}
 use Rattle.spu_text.proofs.lines.tokens.Goals as goal
 
-pub returns-in_err-read_line : goal.returns-in_err-read_line
-returns-in_err-read_line c =
-    let some : 0 < length c.loop-rest.rest.now = grind (arith, nat_tests) in
-    let same = err_from_is_err_and c.from_residual.result c.from_residual.ensures.1 in
-    let fault = lines_fault c.loop-rest.number c.loop-rest.start c.loop-rest.rest.now c.split_at.result.0.now _ in
-    gives_fault _ c.in_err-read_line.field-0.0 _ _ (same.1 ∙ ap (λ y. Err y) same.2) c.in_err-read_line.ensures (λ g e. fault g _ c.loop-rest.invariant.read some (cc) e)
-
-pub loop-rest-preserved : goal.loop-rest-preserved
-loop-rest-preserved c =
-    let inv = c.loop-rest.invariant in
-    let cut = c.split_at.ensures in
-    let some : 0 < length c.loop-rest.rest.now = grind (arith, nat_tests) in
-    record {
-      read = lines_step c.loop-rest.number c.loop-rest.start c.loop-rest.rest.now c.split_at.result.0.now c.split_at.result.1.now _ _ _ inv.read some (cc) (cc) c.in_ok-read_line.ensures;
-      place = omega (arith, cut.front_len, cut.back_len);
-      count = omega (arith, cut.front_len, c.line_len.ensures.some some);
-    }
+pub returns : goal.returns
+returns c = rw (ap (lines_read 1 0) (all_lines 4294967295 c.args.text.now (omega (arith, c.requires)))) at c.tokens_of_lines.ensures
