@@ -1,5 +1,5 @@
--- Values in operands and directives: a number with an optional `-`, `.` or a symbol, each of the last two with a number
--- added or taken away.
+-- Values in operands and directives: a number with an optional `-`, `.` or a symbol, each of the last two alone or with a
+-- number added or taken away.
 use Rattle.std.specs.Prelude.{ℕ, ◌==◌, Bool, true, false, if◌then◌else◌, List, ◌∷◌, Option, Some, None, option_map, codes}
 use Rattle.std.specs.Borrow.{Bor}
 use Rattle.std.specs.Str.{bytes_eq}

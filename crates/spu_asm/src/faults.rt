@@ -2,15 +2,34 @@
 
 ghost use Rattle.std.specs.Prelude.{◌≡◌};
 ghost use Rattle.spu_asm.specs.declared.faults.AsmFault.TheVariants as faults;
-ghost use Rattle.spu_asm.specs.declared.faults.AsmKind.TheVariants.{NotBuilt};
 
 use spu_word::OutOfMemory;
 
 /// What is wrong with a line.
 #[derive(Clone, Copy, PartialEq, Eq, Debug)]
 pub enum AsmKind {
-    /// A0: the form that is built doesn't allow this line here, or the text ends before it.
-    NotBuilt,
+    /// A1: a byte other than 9, 10, 13 and 32 to 126.
+    NotAscii,
+    /// A2: more than 512 bytes.
+    LineTooLong,
+    /// A3: a word that begins with a digit and is no number below 2^128.
+    BadNumber,
+    /// A4: a statement that begins with no word, with `.` alone, or with a word that names no instruction and doesn't begin
+    /// with `.`.
+    UnknownMnemonic,
+    /// A5: the operands aren't those of the instruction.
+    BadOperand,
+    /// A6: a number outside its range.
+    Range,
+    /// A7: a label that is there already.
+    DuplicateLabel,
+    /// A8: a directive that isn't known or against its rules, an unclosed quote or an unknown escape, content where its
+    /// section allows none, or a padding of code that begins at no multiple of 4.
+    BadDirective,
+    /// A9: a section over 262,144 bytes.
+    SectionTooLarge,
+    /// A10: a text over 4,194,304 bytes, or an object that has no file.
+    TooLarge,
 }
 
 /// Why a text has no object.
@@ -27,15 +46,5 @@ impl From<OutOfMemory> for AsmFault {
 
     fn from(_: OutOfMemory) -> AsmFault {
         AsmFault::OutOfMemory
-    }
-}
-
-/// The fault of a line that the form doesn't allow.
-pub fn not_built(line: u32) -> AsmFault
-    ensures { result ≡ faults.Fault NotBuilt line }
-{
-    AsmFault::Fault {
-        kind: AsmKind::NotBuilt,
-        line,
     }
 }

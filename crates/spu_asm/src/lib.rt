@@ -1,16 +1,30 @@
 //! Objects from assembly texts.
 #![tactic(auto)]
 
-mod assembler;
+pub mod accumulating;
+mod assembly;
+#[cfg(test)]
+mod assembly_tests;
+mod contents;
+pub mod cutting;
+pub mod directives;
 mod faults;
-mod instructions;
 pub mod names;
 mod numerals;
-mod operands;
+pub mod objects;
 pub mod operations;
-mod parts;
+pub mod progress;
+mod quotes;
 pub mod reading;
+mod refusals;
+pub mod sections;
+pub mod statement_reading;
+pub mod statements;
+pub mod symbols;
+pub mod tables;
+#[cfg(test)]
+mod tests;
 pub mod values;
 
-pub use assembler::{assemble, one_answer};
+pub use assembly::{assemble, one_answer};
 pub use faults::{AsmFault, AsmKind};

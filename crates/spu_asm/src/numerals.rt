@@ -37,25 +37,3 @@ pub fn number(text: &[u8]) -> Option<u32>
         Err(_) => None,
     }
 }
-
-/// The number of 16 bits that a text writes, `-` before a negative one.
-pub fn integer(text: &[u8]) -> Option<i16>
-    ensures some { IfSome result (λ z. text.now ≡ signed_decimal z) }
-    ensures only { (z : ℤ) → negsuc 32767 ≤ℤ z → z ≤ℤ pos 32767 → text.now ≡ signed_decimal z → result ≡ Some z }
-{
-    match text {
-        [b'-', digits @ ..] => negative(number(digits)?),
-        _ => i16::try_from(number(text)?).ok(),
-    }
-}
-
-/// The negative number of 16 bits with this magnitude.
-fn negative(magnitude: u32) -> Option<i16>
-    ensures some { IfSome result (λ z. (0 < magnitude) × (z ≡ negsuc (magnitude - 1))) }
-    ensures only { 0 < magnitude → magnitude ≤ 32768 → result ≡ Some (negsuc (magnitude - 1)) }
-{
-    if magnitude == 0 {
-        return None;
-    }
-    i16::try_from(-i64::from(magnitude)).ok()
-}

@@ -118,7 +118,7 @@ fn quotient(bounds: Bounds, number: Offset, most: u32) -> Option<i32>
 }
 
 /// The addend of 32 bits.
-fn addend_of(number: Offset) -> Option<i32>
+pub fn addend_of(number: Offset) -> Option<i32>
     ensures { result ≡ addend_of number }
 {
     if number.negative {

@@ -1,0 +1,7 @@
+use Rattle.spu_asm.specs.Statements.{effect_of}
+use Rattle.spu_asm.specs.Cursors.{drafts}
+use Rattle.spu_asm.proofs.FitLemmas.{common_near}
+use Rattle.spu_asm.proofs.accumulating.Assembler.obey_in.Goals as goal
+
+pub common_spot-spot-requires : goal.common_spot-spot-requires
+common_spot-spot-requires c = common_near (effect_of c.args.action.now) c.args.self.now.current.now (drafts c.args.self.now.sections) c.requires

@@ -1,0 +1,11 @@
+use Rattle.spu_asm.proofs.OneAnswer.{one_object, not_both, one_fault}
+use Rattle.spu_asm.proofs.assembly.one_answer.Goals as goal
+
+pub returns-clause-object : goal.returns-clause-object
+returns-clause-object c = one_object
+
+pub returns-clause-not_both : goal.returns-clause-not_both
+returns-clause-not_both c = not_both
+
+pub returns-clause-fault : goal.returns-clause-fault
+returns-clause-fault c = one_fault

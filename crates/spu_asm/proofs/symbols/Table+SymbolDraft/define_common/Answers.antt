@@ -1,0 +1,8 @@
+use Rattle.std.specs.Prelude.{Some}
+use Rattle.indexmap.proofs.MapLemmas.{OnOk-map}
+use Rattle.spu_asm.specs.Cursors.{Sighting, sightings, spot_of_code}
+use Rattle.spu_asm.proofs.SymbolLemmas.{told_noted}
+use Rattle.spu_asm.proofs.symbols.Table+SymbolDraft.define_common.Goals as goal
+
+pub returns : goal.returns
+returns c = OnOk-map c.note.result _ _ (told_noted (sightings c.args.self.now) c.args.name.now (λ (s : Sighting). record s { spot = Some (spot_of_code c.args.spot); size = c.args.size }) _ _ c.state-symbol.ensures) c.note.ensures

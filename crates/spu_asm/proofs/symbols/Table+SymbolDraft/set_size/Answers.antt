@@ -1,0 +1,7 @@
+use Rattle.indexmap.proofs.MapLemmas.{OnOk-map}
+use Rattle.spu_asm.specs.Cursors.{Sighting, sightings}
+use Rattle.spu_asm.proofs.SymbolLemmas.{told_noted}
+use Rattle.spu_asm.proofs.symbols.Table+SymbolDraft.set_size.Goals as goal
+
+pub returns : goal.returns
+returns c = OnOk-map c.note.result _ _ (told_noted (sightings c.args.self.now) c.args.name.now (λ (s : Sighting). record s { size = c.args.size }) _ _ c.state-symbol.ensures) c.note.ensures

@@ -1,0 +1,178 @@
+-- What directives do, by SPU Assembly Language: their names, one line each, and what each does with its operands. Operands
+-- that it doesn't take are A8.
+use Rattle.std.specs.Prelude.{ℕ, ◌^◌, ◌==◌, ◌&&◌, ◌||◌, Bool, true, false, nat_le, if◌then◌else◌, List, [], ◌∷◌, ◌++◌, take, Option, Some, None, option_map, Ok, Err, codes}
+use Rattle.std.specs.List.{list_any}
+use Rattle.std.specs.Str.{bytes_eq}
+use Rattle.spu_elf.specs.declared.objects.SecKind.{SecKind}
+use Rattle.spu_elf.specs.declared.objects.SecKind.TheVariants as kinds
+use Rattle.spu_elf.specs.declared.objects.SymKind.{SymKind}
+use Rattle.spu_elf.specs.declared.objects.SymKind.TheVariants as symbols
+use Rattle.spu_asm.specs.Names.{is_symbol}
+use Rattle.spu_asm.specs.Quotes.{text_of}
+use Rattle.spu_asm.specs.Statements.{Name, Effect, nothing, content, space, align, section, exports, may_be_common, has_kind, ends_here, has_size, common}
+use Rattle.spu_asm.specs.Contents.{Meaning, values_in}
+use Rattle.spu_asm.specs.declared.faults.AsmKind.TheVariants.{BadDirective}
+use Rattle.spu_asm.specs.declared.values.Piece.{Piece}
+use Rattle.spu_asm.specs.declared.values.Piece.TheVariants as pieces
+use Rattle.spu_asm.specs.declared.directives.Directive.{Directive}
+use Rattle.spu_asm.specs.declared.directives.Directive.TheVariants as directive
+
+abbrev pub name_of : Directive → List ℕ
+name_of directive.Text = codes ".text"
+name_of directive.Data = codes ".data"
+name_of directive.Bss = codes ".bss"
+name_of directive.Section = codes ".section"
+name_of directive.Global = codes ".global"
+name_of directive.Globl = codes ".globl"
+name_of directive.Type = codes ".type"
+name_of directive.Size = codes ".size"
+name_of directive.Align = codes ".align"
+name_of directive.P2align = codes ".p2align"
+name_of directive.Byte = codes ".byte"
+name_of directive.Hword = codes ".hword"
+name_of directive.Short = codes ".short"
+name_of directive.Word = codes ".word"
+name_of directive.Long = codes ".long"
+name_of directive.Int = codes ".int"
+name_of directive.Quad = codes ".quad"
+name_of directive.Octa = codes ".octa"
+name_of directive.Ascii = codes ".ascii"
+name_of directive.Asciz = codes ".asciz"
+name_of directive.String = codes ".string"
+name_of directive.Space = codes ".space"
+name_of directive.Skip = codes ".skip"
+name_of directive.Zero = codes ".zero"
+name_of directive.Local = codes ".local"
+name_of directive.Comm = codes ".comm"
+name_of directive.File = codes ".file"
+name_of directive.Ident = codes ".ident"
+
+-- ---- operands
+
+abbrev pub bad : Meaning
+bad = Err BadDirective
+
+abbrev pub only_if : Bool → Effect → Meaning
+only_if b e = if b then Ok e else bad
+
+abbrev pub of_some : {A : Type 0} → (A → Effect) → Option A → Meaning
+of_some f (Some x) = Ok (f x)
+of_some f None = bad
+
+-- no operands
+abbrev pub alone : Effect → List Piece → Meaning
+alone e [] = Ok e
+alone e (t ∷ ts) = bad
+
+-- `symbol`
+abbrev pub one_symbol : List Piece → Option Name
+one_symbol (pieces.Word s ∷ []) = if is_symbol s.now then Some s.now else None
+one_symbol _ = None
+
+-- `symbol,@function` or `symbol,@object`
+unfoldable pub symbol_kind : List ℕ → Option SymKind
+symbol_kind w =
+    if bytes_eq w (codes "@function") then Some symbols.Function
+    else (if bytes_eq w (codes "@object") then Some symbols.Object
+    else None)
+
+abbrev pub type_of : List Piece → Meaning
+type_of (pieces.Word s ∷ pieces.Mark c ∷ pieces.Word k ∷ []) = if c == 44 && is_symbol s.now then of_some (has_kind s.now) (symbol_kind k.now) else bad
+type_of _ = bad
+
+-- `symbol,number` or `symbol,.-symbol`
+abbrev pub size_of : List Piece → Meaning
+size_of (pieces.Word s ∷ pieces.Mark c ∷ pieces.Number n ∷ []) = only_if (c == 44 && is_symbol s.now) (has_size s.now n)
+size_of (pieces.Word s ∷ pieces.Mark c ∷ pieces.Word h ∷ pieces.Mark m ∷ pieces.Word t ∷ []) =
+    only_if (c == 44 && m == 45 && is_symbol s.now && bytes_eq h.now (codes ".") && bytes_eq s.now t.now) (ends_here s.now)
+size_of _ = bad
+
+-- a number from 0 to 7
+abbrev pub align_of : List Piece → Meaning
+align_of (pieces.Number n ∷ []) = only_if (nat_le n 7) (align (2 ^ n))
+align_of _ = bad
+
+-- a number
+abbrev pub space_of : List Piece → Meaning
+space_of (pieces.Number n ∷ []) = Ok (space n)
+space_of _ = bad
+
+unfoldable pub is_step : ℕ → Bool
+is_step a = a == 1 || a == 2 || a == 4 || a == 8 || a == 16 || a == 32 || a == 64 || a == 128
+
+-- `symbol,number,step`
+abbrev pub common_of : List Piece → Meaning
+common_of (pieces.Word s ∷ pieces.Mark c ∷ pieces.Number n ∷ pieces.Mark d ∷ pieces.Number a ∷ []) =
+    only_if (c == 44 && d == 44 && is_symbol s.now && is_step a) (common s.now n a)
+common_of _ = bad
+
+-- quoted text, and these bytes behind it
+abbrev pub one_text : List ℕ → List Piece → Meaning
+one_text end (pieces.Quoted q ∷ []) = of_some (λ (t : List ℕ). content (t ++ end) ([])) (text_of q.now)
+one_text end _ = bad
+
+-- ---- sections
+
+unfoldable pub kind_by_name : List ℕ → SecKind
+kind_by_name w =
+    if bytes_eq (take 5 w) (codes ".text") then kinds.Code
+    else (if bytes_eq (take 5 w) (codes ".data") then kinds.Vars
+    else (if bytes_eq (take 4 w) (codes ".bss") then kinds.Zero
+    else kinds.Const))
+
+-- by the letters `x` and `w`
+abbrev pub kind_by_flags : List ℕ → SecKind
+kind_by_flags f =
+    if list_any (λ c. c == 120) f then kinds.Code
+    else (if list_any (λ c. c == 119) f then kinds.Vars
+    else kinds.Const)
+
+-- whether `@nobits` is among the words and numbers behind the flags, each after a comma
+abbrev pub is_nobits : List Piece → Option Bool
+is_nobits [] = Some false
+is_nobits (pieces.Mark c ∷ pieces.Word w ∷ ts) = if c == 44 then option_map (λ (b : Bool). bytes_eq w.now (codes "@nobits") || b) (is_nobits ts) else None
+is_nobits (pieces.Mark c ∷ pieces.Number n ∷ ts) = if c == 44 then is_nobits ts else None
+is_nobits _ = None
+
+abbrev pub flagged : Name → Option Bool → Option (List ℕ) → Meaning
+flagged s (Some true) (Some f) = Ok (section s kinds.Zero)
+flagged s (Some false) (Some f) = Ok (section s (kind_by_flags f))
+flagged s (Some b) None = bad
+flagged s None f = bad
+
+abbrev pub section_of : List Piece → Meaning
+section_of (pieces.Word s ∷ []) = Ok (section s.now (kind_by_name s.now))
+section_of (pieces.Word s ∷ pieces.Mark c ∷ pieces.Quoted f ∷ ts) = if c == 44 then flagged s.now (is_nobits ts) (text_of f.now) else bad
+section_of _ = bad
+
+-- ---- directives
+
+unfoldable pub meaning_of : Directive → List Piece → Meaning
+meaning_of directive.Text ts = alone (section (codes ".text") kinds.Code) ts
+meaning_of directive.Data ts = alone (section (codes ".data") kinds.Vars) ts
+meaning_of directive.Bss ts = alone (section (codes ".bss") kinds.Zero) ts
+meaning_of directive.Section ts = section_of ts
+meaning_of directive.Global ts = of_some exports (one_symbol ts)
+meaning_of directive.Globl ts = of_some exports (one_symbol ts)
+meaning_of directive.Type ts = type_of ts
+meaning_of directive.Size ts = size_of ts
+meaning_of directive.Align ts = align_of ts
+meaning_of directive.P2align ts = align_of ts
+meaning_of directive.Byte ts = values_in 1 ts
+meaning_of directive.Hword ts = values_in 2 ts
+meaning_of directive.Short ts = values_in 2 ts
+meaning_of directive.Word ts = values_in 4 ts
+meaning_of directive.Long ts = values_in 4 ts
+meaning_of directive.Int ts = values_in 4 ts
+meaning_of directive.Quad ts = values_in 8 ts
+meaning_of directive.Octa ts = values_in 16 ts
+meaning_of directive.Ascii ts = one_text ([]) ts
+meaning_of directive.Asciz ts = one_text (0 ∷ []) ts
+meaning_of directive.String ts = one_text (0 ∷ []) ts
+meaning_of directive.Space ts = space_of ts
+meaning_of directive.Skip ts = space_of ts
+meaning_of directive.Zero ts = space_of ts
+meaning_of directive.Local ts = of_some may_be_common (one_symbol ts)
+meaning_of directive.Comm ts = common_of ts
+meaning_of directive.File ts = Ok nothing
+meaning_of directive.Ident ts = Ok nothing

@@ -1,0 +1,31 @@
+-- What the code has of the statements so far, and what it makes of all of them.
+use Rattle.std.specs.Prelude.{◌≡◌, [], Some, None, option_map}
+use Rattle.spu_elf.specs.Validity.{IsValid}
+use Rattle.spu_asm.specs.Statements.{Name}
+use Rattle.spu_asm.specs.Histories.{History, spot_of, symbol_size}
+use Rattle.spu_asm.specs.Faults.{Fault, Run, first_fault}
+use Rattle.spu_asm.specs.Objects.{object_of}
+use Rattle.spu_asm.specs.Assemblers.{cursor_of}
+use Rattle.spu_asm.specs.Standing.{Holds}
+use Rattle.spu_asm.specs.declared.progress.LineFault.{LineFault}
+use Rattle.spu_asm.specs.declared.progress.Progress.{Progress}
+use Rattle.spu_asm.specs.declared.progress.Outcome.{Outcome}
+use Rattle.spu_asm.specs.declared.progress.Outcome.TheVariants as outcomes
+
+abbrev pub fault_of : LineFault → Fault
+fault_of f = record { line = f.line; kind = f.kind }
+
+-- only a symbol that stands somewhere has a size
+abbrev pub IsSizedHistory : History → Type 0
+IsSizedHistory h = (n : Name) → spot_of h n ≡ None → symbol_size h n ≡ 0
+
+-- the code stands for these statements
+pub record InRun (r : Run) (p : Progress) : Type 0 where
+  pub holds : Holds r.history (cursor_of p.assembler)
+  pub sized : IsSizedHistory r.history
+  pub worst : option_map fault_of p.worst ≡ first_fault r.faults
+
+abbrev pub Finishes : Run → Outcome → Type 0
+Finishes r (outcomes.Faulty f) = first_fault r.faults ≡ Some (fault_of f)
+Finishes r (outcomes.Object o) = (r.faults ≡ []) × (o ≡ object_of r.history)
+Finishes r outcomes.NoFile = (r.faults ≡ []) × (IsValid (object_of r.history) → ⊥)

@@ -1,0 +1,181 @@
+//! Statement after statement, with the first fault so far.
+
+ghost use Rattle.std.specs.Prelude.{◌≡◌, ◌∷◌, [], OnOk, IfOk, option_map};
+ghost use Rattle.spu_asm.specs.Statements.{stmt_of};
+ghost use Rattle.spu_asm.specs.Faults.{Run, run_of, after, comes_before, earlier};
+ghost use Rattle.spu_asm.specs.Progressing.{InRun, Finishes, fault_of};
+
+use crate::accumulating::{Assembler, fault_number};
+use crate::faults::AsmKind;
+use crate::statements::Statement;
+use spu_elf::Object;
+use spu_word::OutOfMemory;
+use std::alloc::Global;
+
+/// What is wrong with a line.
+#[derive(Clone, Copy, PartialEq, Eq, Debug)]
+pub struct LineFault {
+    pub line: u32,
+    pub kind: AsmKind,
+}
+
+/// What statements come to.
+#[derive(Drop)]
+pub enum Outcome {
+    /// The least fault of the first faulty line.
+    Faulty(LineFault),
+    /// Their object.
+    Object(Object),
+    /// An object that has no file.
+    NoFile,
+}
+
+/// The statements so far.
+#[derive(Drop)]
+pub struct Progress<'a> {
+    assembler: Assembler<'a>,
+    worst: Option<LineFault>,
+}
+
+/// Whether a fault stands on an earlier line, or on the same with a lesser number.
+fn comes_before(f: LineFault, g: LineFault) -> bool
+    ensures { result ≡ comes_before (fault_of f) (fault_of g) }
+{
+    f.line < g.line || (f.line == g.line && fault_number(f.kind) < fault_number(g.kind))
+}
+
+/// The fault that comes first.
+fn earlier(f: LineFault, other: Option<LineFault>) -> LineFault
+    ensures { fault_of result ≡ earlier (fault_of f) (option_map fault_of other) }
+{
+    match other {
+        Some(g) => if comes_before(g, f) { g } else { f },
+        None => f,
+    }
+}
+
+impl<'a> Progress<'a> {
+    /// No statement yet.
+    #[tactic(auto, using(crate::proofs::Joins::begins))]
+    pub fn new(alloc: Global) -> Progress<'a>
+        ensures { InRun (run_of []) result }
+    {
+        Progress {
+            assembler: Assembler::new(alloc),
+            worst: None,
+        }
+    }
+
+    /// The next statement.
+    pub fn take(&mut self, s: &Statement<'a>) -> Result<(), OutOfMemory>
+        ensures { (r : Run) → InRun r self.old → OnOk result (InRun (after r (stmt_of s.now)) self.new) }
+    {
+        match self.assembler.judge(s) {
+            None => self.assembler.accept(s),
+            Some(kind) => {
+                self.note(LineFault { line: s.line, kind });
+                Ok(())
+            }
+        }
+    }
+
+    /// A fault of the text.
+    pub fn note(&mut self, fault: LineFault)
+        ensures { (r : Run) → InRun r self.old → InRun (record r { faults = fault_of fault ∷ r.faults }) self.new }
+    {
+        self.worst = Some(earlier(fault, self.worst));
+    }
+
+    /// What all of them come to.
+    pub fn finish(&self, alloc: Global) -> Result<Outcome, OutOfMemory>
+        ensures { (r : Run) → InRun r self.now → IfOk result (Finishes r) }
+    {
+        match self.worst {
+            Some(fault) => Ok(Outcome::Faulty(fault)),
+            None => match self.assembler.object(alloc)? {
+                Some(object) => Ok(Outcome::Object(object)),
+                None => Ok(Outcome::NoFile),
+            },
+        }
+    }
+}
+
+#[cfg(test)]
+mod tests {
+    use super::*;
+    use crate::statements::{Action, Coded};
+    use spu_elf::SymPlace;
+    use std::test::Fail;
+
+    /// A statement with at most one label.
+    fn statement<'a>(
+        alloc: Global,
+        line: u32,
+        label: Option<&'a [u8]>,
+        action: Action<'a>,
+    ) -> Result<Statement<'a>, Fail> {
+        let mut labels = Vec::new(alloc);
+        if let Some(name) = label {
+            labels.push(name).ok().ok_or("memory")?;
+        }
+        Ok(Statement {
+            line,
+            labels,
+            action: Ok(action),
+        })
+    }
+
+    /// The word of `nop`.
+    fn nop<'a>() -> Action<'a> {
+        Action::Instruction(Coded {
+            word: 0x4020_0000,
+            place: None,
+            target: None,
+        })
+    }
+
+    #[test]
+    fn an_object(rt: HostRuntime) -> Result<(), Fail> {
+        let alloc = rt.alloc();
+        let mut progress = Progress::new(alloc);
+        let local = statement(alloc, 1, None, Action::Local(b"c"))?;
+        progress.take(&local).ok().ok_or("memory")?;
+        let common = Action::Common {
+            name: b"c",
+            size: 4,
+            align: 32,
+        };
+        let common = statement(alloc, 2, None, common)?;
+        progress.take(&common).ok().ok_or("memory")?;
+        let main = statement(alloc, 3, Some(b"main"), nop())?;
+        progress.take(&main).ok().ok_or("memory")?;
+        let padding = statement(alloc, 4, None, Action::Align(8))?;
+        progress.take(&padding).ok().ok_or("memory")?;
+        let outcome = progress.finish(alloc).ok().ok_or("memory")?;
+        let Outcome::Object(object) = outcome else {
+            return Err("no object")?;
+        };
+        let bss = object.sections.get(0).ok_or("no section")?;
+        assert_eq!(rt; (bss.align, bss.size), (32, 4));
+        let text = object.sections.get(1).ok_or("no section")?;
+        assert_eq!(rt; text.bytes.as_slice(), b"\x40\x20\0\0\0\x20\0\0".as_slice());
+        let symbol = object.symbols.get(1).ok_or("no symbol")?;
+        assert_eq!(rt; symbol.place, SymPlace::Inside(1));
+        Ok(())
+    }
+
+    #[test]
+    fn the_first_fault(rt: HostRuntime) -> Result<(), Fail> {
+        let alloc = rt.alloc();
+        let mut progress = Progress::new(alloc);
+        let main = statement(alloc, 7, Some(b"main"), nop())?;
+        progress.take(&main).ok().ok_or("memory")?;
+        progress.take(&main).ok().ok_or("memory")?;
+        let outcome = progress.finish(alloc).ok().ok_or("memory")?;
+        let Outcome::Faulty(fault) = outcome else {
+            return Err("no fault")?;
+        };
+        assert_eq!(rt; (fault.line, fault.kind), (7, AsmKind::DuplicateLabel));
+        Ok(())
+    }
+}

@@ -1,0 +1,310 @@
+//! Sections as statements add to them.
+
+ghost use Rattle.std.specs.Prelude.{◌≡◌, ℕ, ◌+◌, ◌*◌, ◌/◌, ◌≤◌, ◌<◌, ◌^◌, [], ◌∷◌, ◌++◌, length, map, replicate, OnOk, IfOk, IfSome, option_map, Option};
+ghost use Rattle.std.specs.List.{concat};
+ghost use Rattle.spu_word.specs.Bytes.{be_digits};
+ghost use Rattle.spu_asm.specs.Statements.{effect_of, instruction_of, content_of, relocation_of, target_name, address_relocation, listed, align};
+ghost use Rattle.spu_asm.specs.Histories.{gap, filling, moved, added_bytes};
+ghost use Rattle.spu_asm.specs.Tables.{edited, opened, value_in};
+ghost use Rattle.spu_asm.specs.Cursors.{relocation_of_pending, draft_of, drafts, blank, grown, referring, raised, grown_by, Fits, draft_kind, draft_size};
+
+use crate::reading::{Reference, Target};
+use crate::statements::{Action, AddressValue, Coded, Content};
+use crate::tables::Table;
+use spu_elf::SecKind;
+use spu_word::{Bytes, OutOfMemory, Seq};
+use std::alloc::Global;
+
+/// The alignment that a section begins with.
+const FIRST_ALIGN: u32 = 16;
+/// The word of `lnop`.
+const LNOP: [u8; 4] = [0x00, 0x20, 0x00, 0x00];
+
+/// A relocation whose symbol is still a name.
+#[derive(Clone, Copy, PartialEq, Eq, Debug)]
+pub struct Pending<'a> {
+    /// Where the field's word begins in its section.
+    pub offset: u128,
+    /// The number of SPU ABI, "Relocation Types".
+    pub number: u32,
+    pub name: &'a [u8],
+    pub addend: i32,
+}
+
+/// A section so far.
+#[derive(Drop)]
+pub struct SectionDraft<'a> {
+    pub kind: SecKind,
+    pub align: u32,
+    pub size: u32,
+    /// Its bytes; none in a Zero section.
+    pub bytes: Bytes,
+    /// Its relocations, in order of their places.
+    pub relocations: Seq<Pending<'a>>,
+}
+
+/// How many bytes there are up to the next multiple; a multiple of 0 asks for none.
+pub fn gap(step: u32, at: u32) -> u32
+    ensures { result ≡ gap step at }
+{
+    if step == 0 {
+        return 0;
+    }
+    (step - at % step) % step
+}
+
+/// How many bytes a padding has.
+#[tactic(auto, using(crate::proofs::DraftLemmas::length_lnops))]
+pub fn padding(kind: SecKind, step: u32, at: u32) -> u32
+    ensures { result ≡ length (filling kind (gap step at)) }
+{
+    match kind {
+        SecKind::Code => gap(step, at) / 4 * 4,
+        SecKind::Const | SecKind::Vars | SecKind::Zero => gap(step, at),
+    }
+}
+
+/// The symbol of a target, without its suffix.
+pub fn symbol_of<'a>(target: &Target<'a>) -> &'a [u8]
+    ensures { result.now ≡ target_name target.now }
+{
+    match target.reference {
+        Reference::High | Reference::Low => {
+            target.word.split_at(target.word.len().saturating_sub(2)).0
+        }
+        Reference::Relative | Reference::Absolute | Reference::Address | Reference::Hint =>
+            target.word,
+    }
+}
+
+/// The relocation of an instruction at a place; a hint has none.
+#[tactic(auto, unfolding(crate::specs::Statements::relocation_of))]
+fn relocation_at<'a>(at: u32, target: &Target<'a>) -> Option<Pending<'a>>
+    ensures { map relocation_of_pending (listed result) ≡ moved at (relocation_of target.now) }
+{
+    let number = match target.reference {
+        Reference::Relative => 7,
+        Reference::Absolute => 2,
+        Reference::Address => 5,
+        Reference::High => 3,
+        Reference::Low => 4,
+        Reference::Hint => return None,
+    };
+    Some(Pending {
+        offset: u128::from(at),
+        number,
+        name: symbol_of(target),
+        addend: target.addend,
+    })
+}
+
+impl<'a> SectionDraft<'a> {
+    /// A section without a byte.
+    pub fn new(alloc: Global, kind: SecKind) -> SectionDraft<'a>
+        ensures { draft_of result ≡ blank kind }
+    {
+        SectionDraft {
+            kind,
+            align: FIRST_ALIGN,
+            size: 0,
+            bytes: Seq::new(alloc),
+            relocations: Seq::new(alloc),
+        }
+    }
+
+    /// Adds bytes; a Zero section only counts them.
+    fn append(&mut self, bytes: &[u8]) -> Result<(), OutOfMemory>
+        requires { self.old.size + length bytes.now ≤ 262144 }
+        ensures { OnOk result (draft_of self.new ≡ grown bytes.now (draft_of self.old)) }
+    {
+        self.size += bytes.len() as u32;
+        match self.kind {
+            SecKind::Zero => Ok(()),
+            SecKind::Code | SecKind::Const | SecKind::Vars => self.bytes.extend(bytes),
+        }
+    }
+
+    /// Adds zeros.
+    fn append_zeros(&mut self, n: u32) -> Result<(), OutOfMemory>
+        requires { self.old.size + n ≤ 262144 }
+        ensures { OnOk result (draft_of self.new ≡ grown (replicate n 0) (draft_of self.old)) }
+    {
+        self.size += n;
+        match self.kind {
+            SecKind::Zero => Ok(()),
+            SecKind::Code | SecKind::Const | SecKind::Vars => self.bytes.extend_zeros(n as usize),
+        }
+    }
+
+    /// Adds so many words of `lnop`.
+    fn append_lnops(&mut self, n: u32) -> Result<(), OutOfMemory>
+        requires { self.old.size + n * 4 ≤ 262144 }
+        ensures { OnOk result (draft_of self.new ≡ grown (concat (replicate n (be_digits 0x00200000))) (draft_of self.old)) }
+    {
+        for _ in 0..n {
+            self.append(&LNOP)?;
+        }
+        Ok(())
+    }
+
+    /// Adds a padding.
+    fn fill(&mut self, n: u32) -> Result<(), OutOfMemory>
+        requires { self.old.size + length (filling self.old.kind n) ≤ 262144 }
+        ensures { OnOk result (draft_of self.new ≡ grown (filling self.old.kind n) (draft_of self.old)) }
+    {
+        match self.kind {
+            SecKind::Code => self.append_lnops(n / 4),
+            SecKind::Const | SecKind::Vars | SecKind::Zero => self.append_zeros(n),
+        }
+    }
+
+    /// Pads to the next multiple.
+    fn pad(&mut self, step: u32) -> Result<(), OutOfMemory>
+        requires { self.old.size + length (filling self.old.kind (gap step self.old.size)) ≤ 262144 }
+        ensures { OnOk result (draft_of self.new ≡ grown (filling self.old.kind (gap step self.old.size)) (draft_of self.old)) }
+    {
+        self.fill(gap(step, self.size))
+    }
+
+    /// Raises the alignment.
+    fn raise(&mut self, step: u32)
+        ensures { draft_of self.new ≡ raised step (draft_of self.old) }
+    {
+        self.align = self.align.max(step);
+    }
+
+    /// Adds the relocation of an instruction that is about to come.
+    fn refer(&mut self, target: &Target<'a>) -> Result<(), OutOfMemory>
+        ensures { OnOk result (draft_of self.new ≡ referring (moved self.old.size (relocation_of target.now)) (draft_of self.old)) }
+    {
+        match relocation_at(self.size, target) {
+            Some(p) => self.relocations.push(p),
+            None => Ok(()),
+        }
+    }
+
+    /// Adds the relocation of a value that is about to come.
+    fn refer_value(&mut self, address: &AddressValue<'a>) -> Result<(), OutOfMemory>
+        ensures { OnOk result (draft_of self.new ≡ referring (moved self.old.size (address_relocation address.now ∷ [])) (draft_of self.old)) }
+    {
+        self.relocations.push(Pending {
+            offset: u128::from(self.size) + address.offset as u128,
+            number: 6,
+            name: address.name,
+            addend: address.addend,
+        })
+    }
+
+    /// Adds the relocations of values that are about to come.
+    fn refer_all(&mut self, addresses: &[AddressValue<'a>]) -> Result<(), OutOfMemory>
+        ensures { OnOk result (draft_of self.new ≡ referring (moved self.old.size (map address_relocation addresses.now)) (draft_of self.old)) }
+    {
+        for address in addresses {
+            self.refer_value(address)?;
+        }
+        Ok(())
+    }
+
+    /// Adds an instruction.
+    fn instruct(&mut self, coded: &Coded<'a>) -> Result<(), OutOfMemory>
+        requires { Fits (instruction_of coded.now) (draft_of self.old) }
+        ensures { OnOk result (draft_of self.new ≡ grown_by (instruction_of coded.now) (draft_of self.old)) }
+    {
+        if let Some(target) = coded.target {
+            self.refer(&target)?;
+        }
+        self.append(&coded.word.to_be_bytes())
+    }
+
+    /// Adds values or text.
+    fn contain(&mut self, content: &Content<'a>) -> Result<(), OutOfMemory>
+        requires { self.old.size + length content.now.bytes ≤ 262144 }
+        ensures { OnOk result (draft_of self.new ≡ grown_by (content_of content.now) (draft_of self.old)) }
+    {
+        self.refer_all(content.addresses.as_slice())?;
+        self.append(content.bytes.as_slice())
+    }
+
+    /// Adds a padding, and raises the alignment.
+    fn align_to(&mut self, step: u32) -> Result<(), OutOfMemory>
+        requires { Fits (align step) (draft_of self.old) }
+        ensures { OnOk result (draft_of self.new ≡ grown_by (align step) (draft_of self.old)) }
+    {
+        self.pad(step)?;
+        self.raise(step);
+        Ok(())
+    }
+
+    /// Adds a padding and so many zeros, and raises the alignment.
+    fn hold(&mut self, size: u32, step: u32) -> Result<(), OutOfMemory>
+        requires { self.old.size + length (filling self.old.kind (gap step self.old.size) ++ replicate size 0) ≤ 262144 }
+        ensures { OnOk result (draft_of self.new ≡ raised step (grown (filling self.old.kind (gap step self.old.size) ++ replicate size 0) (draft_of self.old))) }
+    {
+        self.pad(step)?;
+        self.append_zeros(size)?;
+        self.raise(step);
+        Ok(())
+    }
+
+    /// What a statement adds to the section.
+    #[tactic(auto, unfolding(crate::specs::Statements::effect_of))]
+    fn obey(&mut self, action: &Action<'a>) -> Result<(), OutOfMemory>
+        requires { Fits (effect_of action.now) (draft_of self.old) }
+        ensures { OnOk result (draft_of self.new ≡ grown_by (effect_of action.now) (draft_of self.old)) }
+    {
+        match action {
+            Action::Instruction(coded) => self.instruct(coded),
+            Action::Data(content) => self.contain(content),
+            Action::Space(n) => self.append_zeros(*n as u32),
+            Action::Align(step) => self.align_to(*step),
+            Action::Common { size, align, .. } => self.hold(*size as u32, *align),
+            Action::Nothing
+            | Action::Section { .. }
+            | Action::Global(_)
+            | Action::Local(_)
+            | Action::Kind { .. }
+            | Action::EndsHere(_)
+            | Action::Size { .. } => Ok(()),
+        }
+    }
+}
+
+impl<'a> Table<'a, SectionDraft<'a>> {
+    /// Makes a section of this kind, unless it is there.
+    pub fn make(&mut self, alloc: Global, name: &'a [u8], kind: SecKind) -> Result<(), OutOfMemory>
+        ensures { OnOk result (drafts self.new ≡ opened (drafts self.old) name.now (blank kind)) }
+    {
+        self.open(name, SectionDraft::new(alloc, kind))
+    }
+
+    /// The kind of a section, if it is there.
+    pub fn kind(&self, name: &[u8]) -> Option<SecKind>
+        ensures { result ≡ draft_kind (value_in (drafts self.now) name.now) }
+    {
+        match self.get(name) {
+            Some(draft) => Some(draft.kind),
+            None => None,
+        }
+    }
+
+    /// The size of a section; 0 where it isn't there.
+    pub fn size(&self, name: &[u8]) -> u32
+        ensures { result ≡ draft_size (value_in (drafts self.now) name.now) }
+    {
+        match self.get(name) {
+            Some(draft) => draft.size,
+            None => 0,
+        }
+    }
+
+    /// What a statement adds to a section.
+    pub fn obey(&mut self, name: &[u8], action: &Action<'a>) -> Result<(), OutOfMemory>
+        requires { IfSome (value_in (drafts self.old) name.now) (Fits (effect_of action.now)) }
+        ensures { OnOk result (drafts self.new ≡ edited (drafts self.old) name.now (grown_by (effect_of action.now))) }
+    {
+        match self.place(name) {
+            Some(i) => self.map[i].obey(action),
+            None => Ok(()),
+        }
+    }
+}
