@@ -1,13 +1,15 @@
 -- What is seen before a command ends is what was seen before it read its input.
-use Rattle.std.proofs.Common.{◌≡◌, ℕ, List, Option, Some, None, [], ◌∷◌, sym, subst}
+use Rattle.std.proofs.Common.{◌≡◌, ℕ, List, Option, None, [], ◌∷◌, sym, subst}
 use Rattle.spu_io.specs.Outside.{Names, Last}
 use Rattle.spu_tool.specs.declared.made.Made.{Made}
 use Rattle.spu_tool.specs.declared.status.Status.{Status}
 use Rattle.spu_tool.specs.declared.words.Verb.{Verb}
 use Rattle.spu_tool.specs.declared.words.Command.{Command}
 use Rattle.spu_tool.specs.declared.words.Command.TheVariants as command
-use Rattle.spu_tool.specs.Words.{operand, verb_named, word_fault, AsksAfter, Asks}
+use Rattle.spu_tool.specs.Words.{operand, steps_of, verb_named, word_fault, AsksAfter, Asks}
 use Rattle.spu_tool.specs.Makes.{MakesAssemble, MakesLink, MakesRun}
+use Rattle.spu_io.specs.NameTable.{pointed_to}
+use Rattle.spu_tool.specs.Lists.{mail_or_none}
 use Rattle.spu_tool.specs.Commands.{input_name, output_name, MakesBy}
 use Rattle.spu_tool.specs.Outcomes.{Seen, Concludes, Outcome, OutcomeAfter, OutcomeBy, OutcomeOf}
 
@@ -36,9 +38,11 @@ after_verb verb rest (command.Assemble input output) answer a b asks h =
 after_verb verb rest (command.Link output input) answer a b asks h =
     subst (λ v. OutcomeAfter v rest answer a b) (sym asks.verb_is)
     (subst (λ o. Outcome (operand 1 rest) o (MakesLink (operand 1 rest)) answer a b) asks.output_is (subst (λ i. Outcome i output.now (MakesLink i) answer a b) asks.input_is h))
-after_verb verb rest (command.Run input steps) answer a b asks h =
+after_verb verb rest (command.Run input steps mail) answer a b asks h =
     subst (λ v. OutcomeAfter v rest answer a b) (sym asks.verb_is)
-    (subst (λ n. Outcome (operand 0 rest) [] (MakesRun (operand 0 rest) n) answer a b) asks.steps_is (subst (λ i. Outcome i [] (MakesRun i steps) answer a b) asks.input_is h))
+    (subst (λ m. Outcome (operand 0 rest) [] (MakesRun (operand 0 rest) (steps_of rest) (mail_or_none m)) answer a b) asks.mail_is
+    (subst (λ n. Outcome (operand 0 rest) [] (MakesRun (operand 0 rest) n (mail_or_none (pointed_to mail))) answer a b) asks.steps_is
+    (subst (λ i. Outcome i [] (MakesRun i steps (mail_or_none (pointed_to mail))) answer a b) asks.input_is h)))
 
 pub outcome_of : (words : List (List ℕ)) (c : Command) (answer : Status) (a b : Seen) → word_fault words ≡ None → Asks words c
     → Outcome (input_name c) (output_name c) (MakesBy c) answer a b → OutcomeOf words answer a b

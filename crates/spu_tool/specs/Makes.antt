@@ -1,21 +1,33 @@
 -- What a command makes of the bytes of its input: a status, an output file where it has one, and a text.
-use Rattle.std.specs.Prelude.{◌≡◌, ℕ, ◌+◌, ◌-◌, ◌^◌, ◌<◌, ◌≤◌, ◌*◌, ◌/◌, ◌%◌, ◌++◌, ◌∷◌, [], ◌⊎◌, nat_lt, if◌then◌else◌, List, length, Option, Some, None, codes}
+use Rattle.std.specs.Prelude.{◌≡◌, ℕ, ◌+◌, ◌-◌, ◌^◌, ◌<◌, ◌≤◌, ◌/◌, ◌%◌, ◌++◌, ◌∷◌, [], ◌⊎◌, nat_lt, if◌then◌else◌, List, length, Option, Some, None, codes}
 use Rattle.std.specs.List.{flat_map}
 use Rattle.std.specs.Fmt.{decimal}
 use Rattle.spu_elf.specs.declared.objects.Object.{Object}
+use Rattle.spu_elf.specs.declared.faults.ElfKind.{ElfKind}
+use Rattle.spu_elf.specs.declared.faults.ElfFault.{ElfFault}
+use Rattle.spu_elf.specs.declared.faults.ElfFault.TheVariants as faults
+use Rattle.spu_elf.specs.Reading.{object_fault, object_in}
 use Rattle.spu_elf.specs.declared.objects.Segment.{Segment}
-use Rattle.spu_elf.specs.First.{IsFirst}
+use Rattle.spu_lift.specs.FirstForm.{IsFirst}
 use Rattle.spu_elf.specs.Spelling.{spell}
+use Rattle.spu_tool.specs.FileFaults.{elf_line}
 use Rattle.spu_lift.specs.declared.program.Prog.{Prog}
 use Rattle.spu_image.specs.declared.outcome.Linked.{Linked}
 use Rattle.spu_image.specs.Layout.{code_end}
 use Rattle.spu_image.specs.Linking.{IsLinked}
 use Rattle.spu_elf.specs.declared.objects.Exec.{Exec}
-use Rattle.spu_elf.specs.FirstImage.{IsFirstImage}
+use Rattle.spu_elf.specs.Executables.{exec_fault}
+use Rattle.spu_elf.specs.Validity.{IsValidExec}
 use Rattle.spu_elf.specs.Spelling.{spell_exec}
-use Rattle.spu_asm.specs.Forms.{Assembles, IsFaultAt}
+use Rattle.spu_word.specs.declared.load.LoadFault.{LoadFault}
+use Rattle.spu_word.specs.declared.load.LoadFault.TheVariants as loads
+use Rattle.spu_asm.specs.Assembly.{Assembles, IsFaultOf}
+use Rattle.spu_asm.specs.Faults.{Fault}
+use Rattle.spu_asm.specs.declared.faults.AsmKind.{AsmKind}
+use Rattle.spu_asm.specs.declared.faults.AsmKind.TheVariants as asm
 use Rattle.spu_ls.specs.Machine.{State, steps}
 use Rattle.spu_ls.specs.Start.{start}
+use Rattle.spu_ls.specs.Loading.{first_outside}
 use Rattle.spu_ls.specs.Ends.{end_of}
 use Rattle.spu_ls.specs.declared.ending.RunEnd.{RunEnd}
 use Rattle.spu_ls.specs.declared.ending.RunEnd.TheVariants as ending
@@ -59,21 +71,28 @@ pub record HasRoot (l : Linked) : Type 0 where
   pub small : length root.bytes < 2 ^ 32
   pub started : 1 ≤ length l.prog.functions
 
--- the object that the bytes spell is linked; its functions need no stack
+-- the object that the bytes stand for is linked; its functions need no stack
 pub record LinksTo (bytes : List ℕ) (m : Made) : Type 0 where
-  pub object : Object
-  pub read : bytes ≡ spell object
+  pub read : object_fault bytes ≡ None
   pub linked : Linked
-  pub link : IsLinked (object ∷ []) default_limit linked
+  pub link : IsLinked (object_in bytes ∷ []) default_limit linked
   pub is : m ≡ made status.Ok (Some linked.file) (summary linked.prog default_limit 0)
 
--- the bytes spell no object of the first form
+-- it isn't of the first form
 pub record LinksNot (name bytes : List ℕ) (m : Made) : Type 0 where
-  pub none : (o : Object) → IsFirst o → bytes ≡ spell o → ⊥
+  pub read : object_fault bytes ≡ None
+  pub other : IsFirst (object_in bytes) → ⊥
   pub is : m ≡ refused (codes "L0 NotBuilt " ++ name)
 
+-- a check of the file fails, the first at this place
+pub record ReadsNot (fault : Option ElfFault) (name : List ℕ) (m : Made) : Type 0 where
+  pub kind : ElfKind
+  pub place : ℕ
+  pub first : fault ≡ Some (faults.Fault kind place)
+  pub is : m ≡ made status.Refused None (elf_line kind name place)
+
 abbrev pub MakesLink : List ℕ → List ℕ → Made → Type 0
-MakesLink name bytes m = LinksTo bytes m ⊎ LinksNot name bytes m
+MakesLink name bytes m = LinksTo bytes m ⊎ (LinksNot name bytes m ⊎ ReadsNot (object_fault bytes) name m)
 
 -- ---- asm
 
@@ -83,11 +102,24 @@ pub record AssemblesTo (text : List ℕ) (m : Made) : Type 0 where
   pub assembles : Assembles text object
   pub is : m ≡ made status.Ok (Some (spell object)) []
 
--- a line of the text is the first that the form doesn't allow
+-- the number and the name of a fault
+abbrev pub asm_name : AsmKind → List ℕ
+asm_name asm.NotAscii = codes "A1 NotAscii"
+asm_name asm.LineTooLong = codes "A2 LineTooLong"
+asm_name asm.BadNumber = codes "A3 BadNumber"
+asm_name asm.UnknownMnemonic = codes "A4 UnknownMnemonic"
+asm_name asm.BadOperand = codes "A5 BadOperand"
+asm_name asm.Range = codes "A6 Range"
+asm_name asm.DuplicateLabel = codes "A7 DuplicateLabel"
+asm_name asm.BadDirective = codes "A8 BadDirective"
+asm_name asm.SectionTooLarge = codes "A9 SectionTooLarge"
+asm_name asm.TooLarge = codes "A10 TooLarge"
+
+-- the text has this fault
 pub record AssemblesNot (text : List ℕ) (m : Made) : Type 0 where
-  pub number : ℕ
-  pub fault : IsFaultAt text number
-  pub is : m ≡ refused (codes "A0 NotBuilt " ++ decimal number)
+  pub fault : Fault
+  pub has : IsFaultOf text fault
+  pub is : m ≡ refused (asm_name fault.kind ++ codes " " ++ decimal fault.line)
 
 abbrev pub MakesAssemble : List ℕ → Made → Type 0
 MakesAssemble text m = AssemblesTo text m ⊎ AssemblesNot text m
@@ -129,17 +161,38 @@ out_line word = count_line (codes "out") word
 abbrev pub run_text : State → List ℕ
 run_text s = flat_map out_line s.output ++ end_line (end_of s.ended) ++ count_line (codes "steps") s.steps
 
--- the executable that the bytes spell is run from its start, with nothing in its mailbox
-pub record RunsTo (budget : ℕ) (bytes : List ℕ) (m : Made) : Type 0 where
+-- the executable is run from its start, with this mail in its inbound mailbox
+pub record Runs (exec : Exec) (budget : ℕ) (mail : List ℕ) (m : Made) : Type 0 where
+  pub fits : first_outside exec.segments ≡ None
+  pub is : let s = steps budget (start exec mail) in m ≡ made (status_of (end_of s.ended)) None (run_text s)
+
+-- a segment doesn't lie in the local store, the first of this number
+pub record LoadsNot (exec : Exec) (m : Made) : Type 0 where
+  pub number : ℕ
+  pub first : first_outside exec.segments ≡ Some number
+  pub is : m ≡ refused (codes "M4 SegmentRange " ++ decimal number)
+
+-- with no areas, a load is refused for a segment alone, or for want of memory
+abbrev pub IsOfSegment : LoadFault → Type 0
+IsOfSegment (loads.SegmentRange number) = Unit {0}
+IsOfSegment loads.OutOfMemory = Unit {0}
+IsOfSegment (loads.UnresolvedName name) = ⊥
+IsOfSegment (loads.AreasOverlap name) = ⊥
+IsOfSegment (loads.AreaRange name) = ⊥
+
+-- the line of a refused load
+pub record NamesSegment (fault : LoadFault) (m : Made) : Type 0 where
+  pub number : ℕ
+  pub segment : fault ≡ loads.SegmentRange number
+  pub is : m ≡ refused (codes "M4 SegmentRange " ++ decimal number)
+
+-- the bytes spell an executable, which is run or can't be loaded
+pub record RunsTo (budget : ℕ) (mail bytes : List ℕ) (m : Made) : Type 0 where
+  pub read : exec_fault bytes ≡ None
   pub exec : Exec
-  pub image : IsFirstImage exec
-  pub read : bytes ≡ spell_exec exec
-  pub is : let s = steps budget (start exec []) in m ≡ made (status_of (end_of s.ended)) None (run_text s)
+  pub valid : IsValidExec exec
+  pub spelled : spell_exec exec ≡ bytes
+  pub made : Runs exec budget mail m ⊎ LoadsNot exec m
 
--- the bytes spell no image of the first form
-pub record RunsNot (name bytes : List ℕ) (m : Made) : Type 0 where
-  pub none : (x : Exec) → IsFirstImage x → bytes ≡ spell_exec x → ⊥
-  pub is : m ≡ refused (codes "E0 NotBuilt " ++ name)
-
-abbrev pub MakesRun : List ℕ → ℕ → List ℕ → Made → Type 0
-MakesRun name budget bytes m = RunsTo budget bytes m ⊎ RunsNot name bytes m
+abbrev pub MakesRun : List ℕ → ℕ → List ℕ → List ℕ → Made → Type 0
+MakesRun name budget mail bytes m = RunsTo budget mail bytes m ⊎ ReadsNot (exec_fault bytes) name m

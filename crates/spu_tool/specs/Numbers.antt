@@ -1,21 +1,13 @@
 -- Numbers on a command line: decimal digits, or `0x` and hexadecimal digits of either case.
-use Rattle.std.specs.Prelude.{ℕ, ◌+◌, ◌*◌, List, [], ◌∷◌, Option, Some, None, take, drop, if◌then◌else◌, nat_lt, nat_le, codes}
+use Rattle.std.specs.Prelude.{ℕ, ◌+◌, ◌*◌, ◌==◌, ◌&&◌, not, List, length, Option, Some, None, take, drop, if◌then◌else◌, nat_lt, nat_le, codes}
+use Rattle.std.specs.List.{list_all}
 use Rattle.std.specs.Str.{bytes_eq}
+use Rattle.std.specs.Str.Parse.{digits_value}
 use Rattle.std.specs.Char.{digit_value}
-
--- the number whose digits are those of n and then these
-abbrev pub continued : ℕ → ℕ → List ℕ → Option ℕ
-continued radix n [] = Some n
-continued radix n (c ∷ cs) = if nat_lt (digit_value c) radix then continued radix (n * radix + digit_value c) cs else None
-
--- the number whose digits are those of n and then this one
-abbrev pub with_digit : ℕ → ℕ → ℕ → Option ℕ
-with_digit radix n c = if nat_lt (digit_value c) radix then Some (n * radix + digit_value c) else None
 
 -- the number that at least one digit writes
 abbrev pub digits_number : ℕ → List ℕ → Option ℕ
-digits_number radix [] = None
-digits_number radix (c ∷ cs) = continued radix 0 (c ∷ cs)
+digits_number radix ds = if not (length ds == 0) && list_all (λ c. nat_lt (digit_value c) radix) ds then Some (digits_value radix ds) else None
 
 -- the number that a text writes
 abbrev pub number_of : List ℕ → Option ℕ
@@ -28,3 +20,7 @@ bounded most (Some n) = if nat_le n most then Some n else None
 
 abbrev pub number_within : ℕ → List ℕ → Option ℕ
 number_within most text = bounded most (number_of text)
+
+-- n with one digit more
+abbrev pub with_digit : ℕ → ℕ → ℕ → ℕ → Option ℕ
+with_digit radix most n c = if nat_lt (digit_value c) radix && nat_le (n * radix + digit_value c) most then Some (n * radix + digit_value c) else None

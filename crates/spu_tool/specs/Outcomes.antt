@@ -4,7 +4,7 @@
 use Rattle.std.specs.Prelude.{◌≡◌, ◌≢◌, ℕ, ◌++◌, ◌∷◌, [], ◌⊎◌, List, Option, Some, None, codes}
 use Rattle.std.specs.Fmt.{decimal}
 use Rattle.spu_io.specs.Outside.{Names, Last, Read, Write, Rose, ReadOf, Wrote, Spoiled, Gained, GainedPrefix}
-use Rattle.spu_tool.specs.Words.{verb_named, operand, steps_of, word_fault}
+use Rattle.spu_tool.specs.Words.{verb_named, operand, steps_of, mail_of, word_fault}
 use Rattle.spu_tool.specs.Makes.{MakesAssemble, MakesLink, MakesRun}
 use Rattle.spu_tool.specs.declared.words.Verb.{Verb}
 use Rattle.spu_tool.specs.declared.words.Verb.TheVariants.{Assemble, Link, Run}
@@ -132,7 +132,7 @@ pub record IsFaulty (n : ℕ) (answer : Status) (a b : Seen) : Type 0 where
 abbrev pub OutcomeAfter : Option Verb → List (List ℕ) → Status → Seen → Seen → Type 0
 OutcomeAfter (Some Assemble) words answer a b = Outcome (operand 0 words) (operand 1 words) MakesAssemble answer a b
 OutcomeAfter (Some Link) words answer a b = Outcome (operand 1 words) (operand 0 words) (MakesLink (operand 1 words)) answer a b
-OutcomeAfter (Some Run) words answer a b = Outcome (operand 0 words) [] (MakesRun (operand 0 words) (steps_of words)) answer a b
+OutcomeAfter (Some Run) words answer a b = Outcome (operand 0 words) [] (MakesRun (operand 0 words) (steps_of words) (mail_of words)) answer a b
 OutcomeAfter None words answer a b = ⊥
 
 abbrev pub OutcomeBy : Option ℕ → List (List ℕ) → Status → Seen → Seen → Type 0

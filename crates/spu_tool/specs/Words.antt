@@ -5,10 +5,12 @@ use Rattle.std.specs.Prelude.{◌≡◌, ℕ, zero, suc, ◌+◌, ◌==◌, ◌&
 use Rattle.std.specs.Str.{bytes_eq}
 use Rattle.std.specs.List.{list_any, position}
 use Rattle.spu_tool.specs.Numbers.{number_within}
+use Rattle.spu_tool.specs.Lists.{is_mail, mail_or_none}
+use Rattle.spu_io.specs.NameTable.{pointed_to}
 use Rattle.spu_tool.specs.declared.words.Verb.{Verb}
 use Rattle.spu_tool.specs.declared.words.Verb.TheVariants.{Assemble, Link, Run}
 use Rattle.spu_tool.specs.declared.words.OptionName.{OptionName}
-use Rattle.spu_tool.specs.declared.words.OptionName.TheVariants.{Steps}
+use Rattle.spu_tool.specs.declared.words.OptionName.TheVariants.{Steps, Mail}
 use Rattle.spu_tool.specs.declared.words.Command.{Command}
 use Rattle.spu_tool.specs.declared.words.Command.TheVariants as command
 
@@ -56,18 +58,21 @@ value_of word = part_after (equals_sign word) word
 abbrev pub option_named : List ℕ → Option OptionName
 option_named name =
     if bytes_eq name (codes "--steps") then Some Steps else
+    if bytes_eq name (codes "--mail") then Some Mail else
     None
 
 abbrev pub has_option : Verb → OptionName → Bool
-has_option Assemble Steps = false
-has_option Link Steps = false
+has_option Assemble name = false
+has_option Link name = false
 has_option Run Steps = true
+has_option Run Mail = true
 
 abbrev pub steps_value : List ℕ → Option ℕ
 steps_value value = number_within 4294967295 value
 
 abbrev pub is_value : OptionName → List ℕ → Bool
 is_value Steps value = is_some (steps_value value)
+is_value Mail value = is_mail value
 
 -- a command has this option, and the value is one of its values
 abbrev pub is_allowed : Verb → Option OptionName → List ℕ → Bool
@@ -145,6 +150,9 @@ steps_or_default (Some value) = unwrap_or (steps_value value) 1000000
 abbrev pub steps_of : List (List ℕ) → ℕ
 steps_of words = steps_or_default (option_value (codes "--steps") words)
 
+abbrev pub mail_of : List (List ℕ) → List ℕ
+mail_of words = mail_or_none (option_value (codes "--mail") words)
+
 -- what the words after a command ask for
 pub record AsksAssemble (verb : Option Verb) (words : List (List ℕ)) (input output : List ℕ) : Type 0 where
   pub verb_is : verb ≡ Some Assemble
@@ -156,15 +164,16 @@ pub record AsksLink (verb : Option Verb) (words : List (List ℕ)) (output input
   pub output_is : output ≡ operand 0 words
   pub input_is : input ≡ operand 1 words
 
-pub record AsksRun (verb : Option Verb) (words : List (List ℕ)) (input : List ℕ) (steps : ℕ) : Type 0 where
+pub record AsksRun (verb : Option Verb) (words : List (List ℕ)) (input : List ℕ) (steps : ℕ) (mail : Option (List ℕ)) : Type 0 where
   pub verb_is : verb ≡ Some Run
   pub input_is : input ≡ operand 0 words
   pub steps_is : steps ≡ steps_of words
+  pub mail_is : mail ≡ option_value (codes "--mail") words
 
 abbrev pub AsksAfter : Option Verb → List (List ℕ) → Command → Type 0
 AsksAfter verb words (command.Assemble input output) = AsksAssemble verb words input.now output.now
 AsksAfter verb words (command.Link output input) = AsksLink verb words output.now input.now
-AsksAfter verb words (command.Run input steps) = AsksRun verb words input.now steps
+AsksAfter verb words (command.Run input steps mail) = AsksRun verb words input.now steps (pointed_to mail)
 
 -- what a command line asks for
 abbrev pub Asks : List (List ℕ) → Command → Type 0

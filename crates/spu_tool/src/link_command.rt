@@ -4,6 +4,7 @@ ghost use Rattle.std.specs.Prelude.{◌≡◌, ◌++◌, ◌≤◌, ◌∷◌, [
 ghost use Rattle.spu_tool.specs.Makes.{HasRoot, MakesLink, made, refused, summary, summary_of, default_limit};
 ghost use Rattle.spu_tool.specs.declared.status.Status.TheVariants as Status;
 
+use crate::file_faults::elf_refusal;
 use crate::made::Made;
 use crate::status::Status;
 use crate::texts::{count_line, refusal, share_line};
@@ -15,7 +16,7 @@ use std::alloc::Global;
 /// The stack's size, if the words don't say it.
 const DEFAULT_LIMIT: u32 = 16_384;
 
-/// What is made of bytes that spell no object of the first form.
+/// What is made of an object that isn't of the first form.
 fn not_built(alloc: Global, name: &str) -> Result<Made, OutOfMemory>
     ensures { IfOk result (λ m. m ≡ refused (codes "L0 NotBuilt " ++ name.now)) }
 {
@@ -95,7 +96,7 @@ pub fn link_command(alloc: Global, name: &str, bytes: &[u8]) -> Result<Made, Out
 {
     let object = match read_object(alloc, bytes) {
         Ok(object) => object,
-        Err(ElfFault::NotBuilt) => return not_built(alloc, name),
+        Err(ElfFault::Fault { kind, place }) => return elf_refusal(alloc, kind, name, place),
         Err(ElfFault::OutOfMemory) => return Err(OutOfMemory),
     };
     let objects = alone(alloc, object)?;

@@ -3,7 +3,9 @@
 
 mod assemble_command;
 mod concluding;
+mod file_faults;
 mod link_command;
+mod lists;
 mod made;
 mod numbers;
 mod run_command;

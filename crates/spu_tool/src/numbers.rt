@@ -4,6 +4,7 @@ ghost use Rattle.std.specs.Prelude.{◌≡◌, ◌≤◌, drop};
 ghost use Rattle.spu_tool.specs.Numbers.{digits_number, with_digit, bounded, number_within};
 
 // The number that digits write, if it is at most the bound.
+#[tactic(auto, using(crate::proofs::Growing::number_is, crate::proofs::Growing::number_none))]
 fn digits_within(radix: u32, digits: &[u8], most: u64) -> Option<u64>
     requires least { 2 ≤ radix }
     requires greatest { radix ≤ 36 }
@@ -23,7 +24,7 @@ fn digits_within(radix: u32, digits: &[u8], most: u64) -> Option<u64>
 fn with_digit(radix: u32, number: u64, digit: u8, most: u64) -> Option<u64>
     requires least { 2 ≤ radix }
     requires greatest { radix ≤ 36 }
-    ensures { result ≡ bounded most (with_digit radix number digit) }
+    ensures { result ≡ with_digit radix most number digit }
 {
     let digit = char::from(digit).to_digit(radix)?;
     let longer = number

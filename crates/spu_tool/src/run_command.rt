@@ -1,30 +1,31 @@
 //! What `run` makes of an executable's bytes.
 
-ghost use Rattle.std.specs.Prelude.{◌≡◌, ◌++◌, ◌∷◌, ◌<◌, ◌≤◌, ◌%◌, ◌/◌, [], List, codes, string_bytes, Some, None, IfOk, OnOk};
+ghost use Rattle.std.specs.Prelude.{◌≡◌, ◌⊎◌, ◌++◌, ◌∷◌, ◌<◌, ◌≤◌, ◌%◌, ◌/◌, [], List, codes, string_bytes, length, Some, None, IfOk, OnOk};
 ghost use Rattle.std.specs.List.{flat_map};
-ghost use Rattle.spu_ls.specs.Start.{start};
 ghost use Rattle.spu_ls.specs.Ends.{end_of};
 ghost use Rattle.spu_ls.specs.View.{state_of};
-ghost use Rattle.spu_elf.specs.FirstImage.{IsFirstImage};
+ghost use Rattle.std.specs.Fmt.{decimal};
+ghost use Rattle.spu_elf.specs.Validity.{IsValidExec};
 ghost use Rattle.spu_elf.specs.Spelling.{spell_exec};
-ghost use Rattle.spu_tool.specs.Makes.{MakesRun, count_line, made, refused, hex_digit, hexadecimal, end_line, out_line, status_of, run_text};
+ghost use Rattle.spu_tool.specs.Makes.{MakesRun, Runs, LoadsNot, IsOfSegment, NamesSegment, count_line, made, refused, hex_digit, hexadecimal, end_line, out_line, status_of, run_text};
 
+use crate::file_faults::elf_refusal;
 use crate::made::Made;
 use crate::status::Status;
 use crate::texts::{count_line, refusal};
 use spu_elf::{ElfFault, Exec, read_exec};
 use spu_ls::{Machine, RunEnd};
-use spu_word::{Bytes, Inputs, OutOfMemory, Seq};
+use spu_word::{Bytes, Inputs, LoadFault, OutOfMemory, Seq};
 use std::alloc::Global;
 
 /// The effective address of the executable's file, if the words don't say it.
 const DEFAULT_IMAGE: u64 = 0x4000_0000;
 
-/// What is made of bytes that spell no image of the first form.
-fn not_built(alloc: Global, name: &str) -> Result<Made, OutOfMemory>
-    ensures { IfOk result (λ m. m ≡ refused (codes "E0 NotBuilt " ++ name.now)) }
+/// What is made of an executable whose segment of this number doesn't lie in the local store.
+fn segment_refusal(alloc: Global, number: u32) -> Result<Made, OutOfMemory>
+    ensures { IfOk result (λ m. m ≡ refused (codes "M4 SegmentRange " ++ decimal number)) }
 {
-    let line = format!(in alloc; "E0 NotBuilt {name}\n")?;
+    let line = format!(in alloc; "M4 SegmentRange {number}\n")?;
     refusal(alloc, line.as_str())
 }
 
@@ -121,45 +122,68 @@ fn ran(alloc: Global, machine: &Machine, end: RunEnd) -> Result<Made, OutOfMemor
     })
 }
 
-/// No mail and no areas.
-fn no_inputs(alloc: Global) -> Inputs
-    ensures { result ≡ record { image_ea = 1073741824; mail = []; areas = [] } }
+/// The inputs of a run with this mail, and no areas.
+fn inputs(alloc: Global, mail: Seq<u32>) -> Inputs
+    ensures { result ≡ record { image_ea = 1073741824; mail = mail; areas = [] } }
 {
     Inputs {
         image_ea: DEFAULT_IMAGE,
-        mail: Seq::new(alloc),
+        mail,
         areas: Seq::new(alloc),
     }
 }
 
-/// A machine at the start of an image of the first form, whose one segment lies in the local store: want of memory alone
-/// can keep it from being loaded.
-fn loaded(alloc: Global, exec: &Exec, file: &[u8]) -> Result<Machine, OutOfMemory>
-    requires image { IsFirstImage exec.now }
-    requires file { file.now ≡ spell_exec exec.now }
-    ensures { IfOk result (λ m. state_of m ≡ start exec.now []) }
+/// What is made of an executable that could not be loaded with no areas.
+fn load_refusal(alloc: Global, fault: &LoadFault) -> Result<Made, OutOfMemory>
+    requires { IsOfSegment fault.now }
+    ensures { IfOk result (λ m. NamesSegment fault.now m) }
 {
-    match Machine::load(alloc, exec, file, &no_inputs(alloc)) {
-        Ok(machine) => Ok(machine),
-        Err(_) => Err(OutOfMemory),
+    match fault {
+        LoadFault::SegmentRange(number) => segment_refusal(alloc, *number),
+        LoadFault::OutOfMemory => Err(OutOfMemory),
+        LoadFault::UnresolvedName(_) => unreachable!(),
+        LoadFault::AreasOverlap(_) => unreachable!(),
+        LoadFault::AreaRange(_) => unreachable!(),
     }
 }
 
-/// What is made of an executable's bytes: a run of at most so many steps.
+/// What is made of an executable of this file: a run of at most so many steps.
+fn exec_run(
+    alloc: Global,
+    exec: &Exec,
+    file: &[u8],
+    budget: u32,
+    mail: Seq<u32>,
+) -> Result<Made, OutOfMemory>
+    requires valid { IsValidExec exec.now }
+    requires file { file.now ≡ spell_exec exec.now }
+    requires mail { length mail ≤ 65536 }
+    ensures { IfOk result (λ m. Runs exec.now budget mail m ⊎ LoadsNot exec.now m) }
+{
+    let inputs = inputs(alloc, mail);
+    match Machine::load(alloc, exec, file, &inputs) {
+        Ok(mut machine) => {
+            let end = machine.run(u64::from(budget));
+            ran(alloc, &machine, end)
+        }
+        Err(fault) => load_refusal(alloc, &fault),
+    }
+}
+
+/// What is made of an executable's bytes: a run of at most so many steps, with at most 65,536 words of mail.
 pub fn run_command(
     alloc: Global,
     name: &str,
     bytes: &[u8],
     budget: u32,
+    mail: Seq<u32>,
 ) -> Result<Made, OutOfMemory>
-    ensures { IfOk result (MakesRun name.now budget bytes.now) }
+    requires { length mail ≤ 65536 }
+    ensures { IfOk result (MakesRun name.now budget mail bytes.now) }
 {
-    let exec = match read_exec(alloc, bytes) {
-        Ok(exec) => exec,
-        Err(ElfFault::NotBuilt) => return not_built(alloc, name),
-        Err(ElfFault::OutOfMemory) => return Err(OutOfMemory),
-    };
-    let mut machine = loaded(alloc, &exec, bytes)?;
-    let end = machine.run(u64::from(budget));
-    ran(alloc, &machine, end)
+    match read_exec(alloc, bytes) {
+        Ok(exec) => exec_run(alloc, &exec, bytes, budget, mail),
+        Err(ElfFault::Fault { kind, place }) => elf_refusal(alloc, kind, name, place),
+        Err(ElfFault::OutOfMemory) => Err(OutOfMemory),
+    }
 }

@@ -2,6 +2,8 @@
 
 use crate::status::Status;
 use crate::tool::tool;
+use spu_elf::images::is_code;
+use spu_elf::{Exec, Segment, first_image, write_exec};
 use spu_io::{MemFiles, MemSink};
 use spu_word::{OutOfMemory, Seq};
 use std::alloc::Global;
@@ -97,6 +99,22 @@ fn refuses_what_is_not_of_the_form(rt: HostRuntime) -> Result<(), Fail> {
 }
 
 #[test]
+fn names_the_first_fault_of_a_file(rt: HostRuntime) -> Result<(), Fail> {
+    let mut object = OBJECT;
+    object[19] = 20;
+    let ran = called(rt.alloc(), &LINK, &object, &[], &[])
+        .ok()
+        .ok_or("memory")?;
+    assert_eq!(rt; ran.status, Status::Refused);
+    assert_eq!(rt; ran.file, None);
+    assert_eq!(rt;
+        ran.text.as_slice(),
+        b"E4 WrongMachine one.o 18\n".as_slice()
+    );
+    Ok(())
+}
+
+#[test]
 fn tells_which_call_failed(rt: HostRuntime) -> Result<(), Fail> {
     let ran = called(rt.alloc(), &LINK, &OBJECT, &[1], &[])
         .ok()
@@ -180,12 +198,82 @@ fn assembles_links_and_runs(rt: HostRuntime) -> Result<(), Fail> {
     Ok(())
 }
 
+// An image whose `main` sends the words of its inbound mailbox, one after another.
+fn echo(alloc: Global) -> Result<Exec, &'static str> {
+    let mut code = Seq::new(alloc);
+    for word in [0x01a0_0e83_u32, 0x21a0_0e03, 0x327f_ff00] {
+        code.extend(&word.to_be_bytes()).ok().ok_or("memory")?;
+    }
+    if !is_code(code.as_slice()) {
+        return Err("no code");
+    }
+    first_image(alloc, code.as_slice()).ok().ok_or("memory")
+}
+
+// The file of an executable.
+fn file_of(alloc: Global, exec: &Exec) -> Result<Seq<u8>, &'static str> {
+    if !exec.valid() {
+        return Err("not valid");
+    }
+    write_exec(alloc, exec).ok().ok_or("memory")
+}
+
+#[test]
+fn passes_the_mail(rt: HostRuntime) -> Result<(), Fail> {
+    let alloc = rt.alloc();
+    let mut files = MemFiles::new(alloc, Seq::new(alloc));
+    files
+        .hold("echo.elf", file_of(alloc, &echo(alloc)?)?.as_slice())
+        .ok()
+        .ok_or("memory")?;
+    let mut out = MemSink::new(alloc, Seq::new(alloc));
+    let calls: [&[&str]; 2] = [
+        &["run", "--mail=007,0xffffffff", "echo.elf"],
+        &["run", "echo.elf"],
+    ];
+    let all = statuses(alloc, &calls, &mut files, &mut out)
+        .ok()
+        .ok_or("memory")?;
+    assert_eq!(rt; all.as_slice(), [Status::Ended, Status::Ended].as_slice());
+    let text = b"out 7\nout 4294967295\nstarved\nsteps 9\nstarved\nsteps 3\n";
+    assert_eq!(rt; out.as_slice(), text.as_slice());
+    Ok(())
+}
+
+#[test]
+fn names_the_segment_outside(rt: HostRuntime) -> Result<(), Fail> {
+    let alloc = rt.alloc();
+    let mut exec = echo(alloc)?;
+    for address in [262_128, 262_144] {
+        let mut bytes = Seq::new(alloc);
+        bytes.extend_zeros(16).ok().ok_or("memory")?;
+        let segment = Segment {
+            address,
+            overlay: true,
+            bytes,
+        };
+        exec.segments.push(segment).ok().ok_or("memory")?;
+    }
+    let mut files = MemFiles::new(alloc, Seq::new(alloc));
+    files
+        .hold("a.elf", file_of(alloc, &exec)?.as_slice())
+        .ok()
+        .ok_or("memory")?;
+    let mut out = MemSink::new(alloc, Seq::new(alloc));
+    let all = statuses(alloc, &[&["run", "a.elf"]], &mut files, &mut out)
+        .ok()
+        .ok_or("memory")?;
+    assert_eq!(rt; all.as_slice(), [Status::Refused].as_slice());
+    assert_eq!(rt; out.as_slice(), b"M4 SegmentRange 2\n".as_slice());
+    Ok(())
+}
+
 #[test]
 fn names_the_faulty_line(rt: HostRuntime) -> Result<(), Fail> {
     let alloc = rt.alloc();
     let mut files = MemFiles::new(alloc, Seq::new(alloc));
     files
-        .hold("one.s", b".text\nil $3,5\n")
+        .hold("one.s", b".text\nfoo $1\n")
         .ok()
         .ok_or("memory")?;
     files.hold("one.elf", b"none").ok().ok_or("memory")?;
@@ -201,7 +289,7 @@ fn names_the_faulty_line(rt: HostRuntime) -> Result<(), Fail> {
     assert!(rt; files.get("one.o").is_none());
     assert_eq!(rt;
         out.as_slice(),
-        b"A0 NotBuilt 2\nE0 NotBuilt one.elf\n".as_slice()
+        b"A4 UnknownMnemonic 2\nE1 Truncated one.elf 4\n".as_slice()
     );
     Ok(())
 }

@@ -8,6 +8,7 @@ ghost use Rattle.spu_tool.specs.declared.status.Status.TheVariants as Status;
 use crate::assemble_command::assemble_command;
 use crate::concluding::{conclude, put};
 use crate::link_command::link_command;
+use crate::lists::mail_of;
 use crate::made::Made;
 use crate::run_command::run_command;
 use crate::status::Status;
@@ -44,7 +45,9 @@ fn make(alloc: Global, command: Command<'_>, bytes: &[u8]) -> Result<Made, OutOf
     match command {
         Command::Assemble { .. } => assemble_command(alloc, bytes),
         Command::Link { input, .. } => link_command(alloc, input, bytes),
-        Command::Run { input, steps } => run_command(alloc, input, bytes, steps),
+        Command::Run { input, steps, mail } => {
+            run_command(alloc, input, bytes, steps, mail_of(alloc, mail)?)
+        }
     }
 }
 

@@ -2,8 +2,9 @@
 
 ghost use Rattle.std.specs.Prelude.{◌≡◌, ◌==◌, ◌+◌, ◌<◌, ◌≤◌, List, [], ◌∷◌, Option, Some, None, map, length, take, drop, slice_index_or, slice_get, codes, filter, IfSome, IfOk, IfErr, OnOk, string_bytes};
 ghost use Rattle.spu_io.specs.NameTable.{pointed_to};
-ghost use Rattle.spu_tool.specs.Words.{verb_named, is_option, equals_sign, is_named, name_of, value_of, option_named, is_value, is_allowed, has_name, operands_of, is_operand, is_bad_option, is_faulty, first_faulty, steps_of, operand, missing_fault, word_fault, AsksAfter, Asks};
+ghost use Rattle.spu_tool.specs.Words.{verb_named, is_option, equals_sign, is_named, name_of, value_of, option_named, is_value, is_allowed, has_name, operands_of, is_operand, is_bad_option, is_faulty, first_faulty, option_value, steps_of, operand, missing_fault, word_fault, AsksAfter, Asks};
 
+use crate::lists::is_mail;
 use crate::numbers::number_within;
 
 /// A command, without its operands.
@@ -48,9 +49,9 @@ impl Verb {
         ensures { result ≡ has_option self name }
     {
         match (self, name) {
-            (Verb::Assemble, OptionName::Steps) => false,
-            (Verb::Link, OptionName::Steps) => false,
-            (Verb::Run, OptionName::Steps) => true,
+            (Verb::Assemble, OptionName::Steps | OptionName::Mail) => false,
+            (Verb::Link, OptionName::Steps | OptionName::Mail) => false,
+            (Verb::Run, OptionName::Steps | OptionName::Mail) => true,
         }
     }
 }
@@ -63,6 +64,8 @@ const DEFAULT_STEPS: u32 = 1_000_000;
 pub enum OptionName {
     /// `--steps=N`, with N at most 4,294,967,295.
     Steps,
+    /// `--mail=N,N`, with at most 65,536 numbers that are at most 4,294,967,295.
+    Mail,
 }
 
 impl OptionName {
@@ -72,6 +75,8 @@ impl OptionName {
     {
         if name == b"--steps".as_slice() {
             Some(OptionName::Steps)
+        } else if name == b"--mail".as_slice() {
+            Some(OptionName::Mail)
         } else {
             None
         }
@@ -83,6 +88,7 @@ impl OptionName {
     {
         match self {
             OptionName::Steps => number_within(value, u64::from(u32::MAX)).is_some(),
+            OptionName::Mail => is_mail(value),
         }
     }
 }
@@ -91,11 +97,22 @@ impl OptionName {
 #[derive(Clone, Copy, PartialEq, Eq, Debug)]
 pub enum Command<'a> {
     /// Assembles a text to an object.
-    Assemble { input: &'a str, output: &'a str },
+    Assemble {
+        input: &'a str,
+        output: &'a str,
+    },
     /// Links an object to an executable.
-    Link { output: &'a str, input: &'a str },
-    /// Runs an executable, for at most so many steps: 1,000,000 if the words don't say.
-    Run { input: &'a str, steps: u32 },
+    Link {
+        output: &'a str,
+        input: &'a str,
+    },
+    /// Runs an executable, for at most so many steps: 1,000,000 if the words don't say. `mail` is the list of the words of
+    /// its inbound mailbox, as it is written.
+    Run {
+        input: &'a str,
+        steps: u32,
+        mail: Option<&'a [u8]>,
+    },
 }
 
 fn is_option(word: &[u8]) -> bool
@@ -219,20 +236,30 @@ fn first_faulty(verb: Verb, words: &[String]) -> Option<usize>
     None
 }
 
+// The value of the first option of this name.
+fn option_value<'a>(words: &'a [String], name: &[u8]) -> Option<&'a [u8]>
+    ensures { pointed_to result ≡ option_value name.now (map string_bytes words.now) }
+{
+    for word in words {
+        let word = word.as_bytes();
+        if is_named(name, word) {
+            return Some(value_of(word));
+        }
+    }
+    None
+}
+
 // The steps that an option gives: those of the first `--steps`, or 1,000,000.
 fn steps_of(words: &[String]) -> u32
     ensures { result ≡ steps_of (map string_bytes words.now) }
 {
-    for word in words {
-        let word = word.as_bytes();
-        if is_named(b"--steps", word) {
-            return match number_within(value_of(word), u64::from(u32::MAX)) {
-                Some(steps) => steps as u32,
-                None => DEFAULT_STEPS,
-            };
-        }
+    match option_value(words, b"--steps") {
+        Some(value) => match number_within(value, u64::from(u32::MAX)) {
+            Some(steps) => steps as u32,
+            None => DEFAULT_STEPS,
+        },
+        None => DEFAULT_STEPS,
     }
-    DEFAULT_STEPS
 }
 
 // The first two operands, or the fault where one is missing.
@@ -271,6 +298,7 @@ fn command_after(verb: Verb, words: &[String]) -> Result<Command<'_>, usize>
             Some(input) => Ok(Command::Run {
                 input,
                 steps: steps_of(words),
+                mail: option_value(words, b"--mail"),
             }),
             None => Err(words.len() + 2),
         },
@@ -337,6 +365,16 @@ mod tests {
             ("run a --steps=7 --step=7", 4),
             ("run a b --steps=7", 3),
             ("run a --", 3),
+            ("run a --mail", 3),
+            ("run a --mail=", 3),
+            ("run a --mail=,", 3),
+            ("run a --mail=1,,2", 3),
+            ("run a --mail=1,", 3),
+            ("run a --mail=1,2x", 3),
+            ("run a --mail=0X1", 3),
+            ("run a --mail=1,4294967296", 3),
+            ("run a --mail=1 --mail=1", 4),
+            ("link a b --mail=1", 4),
         ];
         for (line, fault) in cases {
             let words = words_of(rt.alloc(), line)?;
@@ -360,7 +398,7 @@ mod tests {
         for (line, expected) in cases {
             let words = words_of(rt.alloc(), line)?;
             match parse(&words) {
-                Ok(Command::Run { input, steps }) => {
+                Ok(Command::Run { input, steps, .. }) => {
                     assert_eq!(rt; input, "a");
                     assert_eq!(rt; steps, expected, "at {line}");
                 }

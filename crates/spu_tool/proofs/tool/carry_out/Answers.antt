@@ -1,4 +1,4 @@
-use Rattle.std.proofs.Common.{◌≡◌, sym, subst}
+use Rattle.std.proofs.Common.{sym, subst}
 use Rattle.spu_io.specs.Outside.{ReadOf}
 use Rattle.spu_tool.specs.Commands.{input_name, output_name}
 use Rattle.spu_tool.specs.Outcomes.{concluded}

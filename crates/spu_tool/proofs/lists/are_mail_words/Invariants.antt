@@ -1,0 +1,11 @@
+use Rattle.std.proofs.Common.{◌≡◌, ◌+◌, length}
+use Rattle.std.specs.List.{list_all}
+use Rattle.std.specs.Option.{option_map_or}
+use Rattle.spu_tool.specs.Lists.{members_of, members_left, is_mail_word}
+use Rattle.spu_tool.proofs.lists.are_mail_words.Given as goal
+
+abbrev pub invariant-members : goal.invariant-members
+invariant-members l = list_all is_mail_word (members_left l.rest) ≡ list_all is_mail_word (members_of l.fn.list)
+
+abbrev pub decreases-members : goal.decreases-members
+decreases-members l = option_map_or (λ rest. length rest.now + 1) l.rest 0
