@@ -67,7 +67,7 @@ module _ (c : Cursor) (v : IsValid (object_at c)) where
   near_reloc : (order : Rows Sighting) (k : ℕ) (r : Relocation) → IsValidReloc (object_at c).sections (length (object_at c).symbols) (reloc_at order k r) → is_near r ≡ true
   near_reloc order k r w =
       let small = small_section (object_at c).sections k w.target.0 v.sections w.target.1 in
-      lt-ltb r.offset 4294967296 (omega (arith, small, w.target.2.inside))
+      lt-ltb r.offset 4294967296 (omega (arith, small, w.target.2.holds.inside))
 
   near_relocs : (order : Rows Sighting) (k : ℕ) (rs : List Relocation) → AllByRecursion (IsValidReloc (object_at c).sections (length (object_at c).symbols)) (map (reloc_at order k) rs) → list_all is_near rs ≡ true
   near_relocs order k [] h = refl

@@ -6,7 +6,7 @@ use Rattle.std.specs.Str.{bytes_eq}
 use Rattle.std.specs.Borrow.{Bor}
 use Rattle.spu_isa.specs.Table.{InRange}
 use Rattle.spu_isa.specs.declared.operation.Op.{Op}
-use Rattle.spu_isa.proofs.Agreement.{name_once}
+use Rattle.spu_isa.proofs.Order.{name_once}
 use Rattle.spu_isa.proofs.Words.{one_word_lem}
 use Rattle.spu_text.specs.declared.lexemes.Token.{Token}
 use Rattle.spu_asm.specs.Names.{is_symbol, unsuffixed}

@@ -19,48 +19,72 @@ fn object(alloc: Global, text: &[u8]) -> Result<Object, Fail> {
     Ok(made)
 }
 
-#[test]
-fn each_rule_refuses(rt: HostRuntime) -> Result<(), Fail> {
-    let texts: [(AsmKind, u32, &[u8]); 32] = [
-        (AsmKind::NotAscii, 2, b"nop\n\x80"),
-        (AsmKind::BadNumber, 1, b"il $3,12x"),
-        (AsmKind::UnknownMnemonic, 1, b"foo $1"),
-        (AsmKind::UnknownMnemonic, 1, b"foo\n\x80"),
-        (AsmKind::UnknownMnemonic, 1, b"a: foo; a: nop"),
-        (AsmKind::BadOperand, 1, b"br 4"),
-        (AsmKind::BadOperand, 1, b"il $3,99999,1"),
-        (AsmKind::Range, 1, b"il $3,40000"),
-        (AsmKind::Range, 1, b"nop 128"),
-        (AsmKind::Range, 1, b".byte 256"),
-        (AsmKind::DuplicateLabel, 2, b"a:\na:\n"),
-        (AsmKind::DuplicateLabel, 1, b"a: a: nop"),
-        (AsmKind::DuplicateLabel, 2, b"x:\n.local x; .comm x,4,4"),
-        (AsmKind::BadDirective, 1, b".comm x,4,16"),
-        (AsmKind::BadDirective, 1, b".foo"),
-        (AsmKind::BadDirective, 1, b".align 8"),
-        (AsmKind::BadDirective, 1, b".space -1"),
-        (AsmKind::BadDirective, 1, b".byte x"),
-        (AsmKind::BadDirective, 1, b".global x,y"),
-        (AsmKind::BadDirective, 1, b".ascii \"a\" \"b\""),
-        (AsmKind::BadDirective, 1, b".type x,@tls"),
-        (AsmKind::BadDirective, 1, b".size x,.-x"),
-        (AsmKind::BadDirective, 2, b"x:\n.data; .size x,.-x"),
-        (AsmKind::BadDirective, 1, b".section a,aw"),
-        (AsmKind::BadDirective, 2, b".bss\n.word 1"),
-        (AsmKind::BadDirective, 2, b".data\nnop"),
-        (AsmKind::BadDirective, 2, b".byte 1\n.align 3"),
-        (AsmKind::BadDirective, 1, b".local x,y"),
-        (AsmKind::BadDirective, 1, b".file \"a"),
-        (AsmKind::SectionTooLarge, 2, b".data\n.space 262145"),
-        (AsmKind::TooLarge, 3, b"x: nop\n.size x,5\n#"),
-        (AsmKind::TooLarge, 1, b".section .eh_frame"),
-    ];
-    let alloc = rt.alloc();
-    for (kind, line, text) in texts {
-        assert_eq!(rt; fault(alloc, text), Some((kind, line)));
+/// Whether each of the texts has this fault, in this line.
+fn are_refused(alloc: Global, kind: AsmKind, line: u32, texts: &[&[u8]]) -> bool {
+    for text in texts {
+        if fault(alloc, text) != Some((kind, line)) {
+            return false;
+        }
     }
+    true
+}
+
+#[test]
+fn tokens_and_operands_refuse(rt: HostRuntime) -> Result<(), Fail> {
+    let alloc = rt.alloc();
+    let unknown: [&[u8]; 4] = [b"foo $1", b"foo\n\x80", b"a: foo; a: nop", b"$3: nop"];
+    assert!(rt; are_refused(alloc, AsmKind::UnknownMnemonic, 1, &unknown));
+    let operands: [&[u8]; 3] = [b"br 4", b"il $3,99999,1", b"ila $3,."];
+    assert!(rt; are_refused(alloc, AsmKind::BadOperand, 1, &operands));
+    let ranges: [&[u8]; 4] = [b"il $3,40000", b"nop 128", b".byte 256", b".byte 256,,"];
+    assert!(rt; are_refused(alloc, AsmKind::Range, 1, &ranges));
+    assert!(rt; are_refused(alloc, AsmKind::BadNumber, 1, &[b"il $3,12x"]));
+    assert!(rt; are_refused(alloc, AsmKind::NotAscii, 2, &[b"nop\n\x80"]));
+    assert!(rt; are_refused(alloc, AsmKind::LineTooLong, 1, &[&[b' '; 513]]));
     assert_eq!(rt; object(alloc, &[b' '; 512])?.sections.len(), 0);
-    assert_eq!(rt; fault(alloc, &[b' '; 513]), Some((AsmKind::LineTooLong, 1)));
+    Ok(())
+}
+
+#[test]
+fn labels_and_sizes_refuse(rt: HostRuntime) -> Result<(), Fail> {
+    let alloc = rt.alloc();
+    let labels: [&[u8]; 2] = [b"a:\na:\n", b"x:\n.local x; .comm x,4,4"];
+    assert!(rt; are_refused(alloc, AsmKind::DuplicateLabel, 2, &labels));
+    assert!(rt; are_refused(alloc, AsmKind::DuplicateLabel, 1, &[b"a: a: nop"]));
+    let large = b".data\n.space 262145".as_slice();
+    assert!(rt; are_refused(alloc, AsmKind::SectionTooLarge, 2, &[large]));
+    let past = b"x: nop\n.size x,5\n#".as_slice();
+    assert!(rt; are_refused(alloc, AsmKind::TooLarge, 3, &[past]));
+    assert!(rt; are_refused(alloc, AsmKind::TooLarge, 1, &[b".section .eh_frame"]));
+    Ok(())
+}
+
+#[test]
+fn directives_refuse(rt: HostRuntime) -> Result<(), Fail> {
+    let alone: [&[u8]; 14] = [
+        b".comm x,4,16",
+        b".comm x,4,12",
+        b".foo",
+        b".align 8",
+        b".space -1",
+        b".byte x",
+        b".global x,y",
+        b".ascii \"a\" \"b\"",
+        b".type x,@tls",
+        b".size x,.-x",
+        b".section a,aw",
+        b".local x,y",
+        b".file \"a",
+        b".file \"a\\q\"",
+    ];
+    assert!(rt; are_refused(rt.alloc(), AsmKind::BadDirective, 1, &alone));
+    let second: [&[u8]; 4] = [
+        b"x:\n.data; .size x,.-x",
+        b".bss\n.word 1",
+        b".data\nnop",
+        b".byte 1\n.align 3",
+    ];
+    assert!(rt; are_refused(rt.alloc(), AsmKind::BadDirective, 2, &second));
     Ok(())
 }
 

@@ -22,8 +22,6 @@ pub mod statement_reading;
 pub mod statements;
 pub mod symbols;
 pub mod tables;
-#[cfg(test)]
-mod tests;
 pub mod values;
 
 pub use assembly::{assemble, one_answer};

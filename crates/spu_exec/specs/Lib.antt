@@ -1,6 +1,12 @@
 pub mod Lanes
+pub mod Moves
 pub mod Quads
 pub mod Values
 pub mod Reads
 pub mod Places
+pub mod Tested
 pub mod Channels
+pub mod Transfers
+pub mod Tags
+pub mod Areas
+pub mod Entries

@@ -3,15 +3,21 @@
 
 mod applying;
 mod bytes;
+pub mod channels;
 mod halfwords;
 mod law;
 mod places;
 mod quads;
-mod shape;
+mod sources;
+mod tags;
 #[cfg(test)]
 mod tests;
+mod transfers;
 mod words;
 
-pub use applying::apply;
-pub use law::lane_law;
+pub use applying::{apply, apply_to};
+pub use law::{address_law, halt_law, lane_law, move_law, test_law, value_law};
 pub use places::{address, halts, test};
+pub use sources::{Extent, Source, is_addressed, is_tested, names, reads};
+pub use tags::{has_tag, is_landing, status, waits};
+pub use transfers::{Form, Transfer, form_of, holds_range, is_shaped, is_size, is_taken};

@@ -6,7 +6,9 @@ use Rattle.std.specs.List.{range_with_len}
 use Rattle.spu_isa.specs.declared.operation.Op.{Op}
 use Rattle.spu_isa.specs.declared.instruction.Inst.{Inst}
 use Rattle.spu_exec.specs.Values.{value}
-use Rattle.spu_exec.specs.Reads.{Source, FromRa, FromRb, FromRc, FromRt, reads}
+use Rattle.spu_exec.specs.declared.sources.Source.{Source}
+use Rattle.spu_exec.specs.declared.sources.Source.TheVariants.{FromRa, FromRb, FromRc, FromRt}
+use Rattle.spu_exec.specs.Reads.{reads}
 
 -- a function has 4 bytes, a place of one too, and a link 16; in a link, i is at most the function's length
 pub data Label : Type 0 where

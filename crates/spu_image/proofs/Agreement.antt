@@ -13,7 +13,9 @@ use Rattle.spu_isa.specs.declared.instruction.Inst.{Inst}
 use Rattle.spu_isa.specs.Table.{row_of}
 use Rattle.spu_exec.specs.Lanes.{lanes, lane_of, byte_value, immediate}
 use Rattle.spu_exec.specs.Values.{value, value_of, shape_of}
-use Rattle.spu_exec.specs.Reads.{Source, FromRa, FromRb, FromRc, FromRt, reads, Agree}
+use Rattle.spu_exec.specs.declared.sources.Source.{Source}
+use Rattle.spu_exec.specs.declared.sources.Source.TheVariants.{FromRa, FromRb, FromRc, FromRt}
+use Rattle.spu_exec.specs.Reads.{reads, Agree}
 use Rattle.spu_lift.specs.declared.program.Prog.{Prog}
 use Rattle.spu_ideal.specs.Bytes.{Label, Fun, Place, Link, Symbol, Num, Part, Unknown, symbol_at, numbers, sixteen, link_of, unknown_quad, is_number, number_of, known, known_word, are_known, computed_byte, computed, same_label, moved_by_or, or_of, is_part, are_parts, is_link}
 use Rattle.spu_ideal.specs.Machine.{forgotten_regs}

@@ -8,7 +8,7 @@ use Rattle.spu_word.specs.Bytes.{be_number, quad_of}
 use Rattle.spu_isa.specs.declared.operation.Op.TheVariants as op
 use Rattle.spu_isa.specs.Table.{Decodes}
 use Rattle.spu_reloc.specs.declared.field.RelocKind.TheVariants as relocs
-use Rattle.spu_elf.specs.Spelling.{aligned, padding}
+use Rattle.spu_elf.specs.Rows.{aligned, padding}
 use Rattle.spu_elf.specs.FirstImage.{start_code, image_segment, image_symbol, image_of}
 use Rattle.spu_lift.specs.declared.program.Operand.{Operand}
 use Rattle.spu_lift.specs.declared.program.Operand.TheVariants as operand

@@ -21,8 +21,8 @@ use Rattle.spu_exec.proofs.Laws.{lane_law_lem}
 use Rattle.spu_exec.specs.Places.{code_mask, quad_mask, taken_of, place_of}
 use Rattle.spu_exec.specs.Lanes.{immediate}
 use Rattle.spu_lift.specs.FirstForm.{MayStand, IsFirstInst}
-use Rattle.spu_elf.specs.declared.objects.Segment.{Segment}
-use Rattle.spu_elf.specs.declared.objects.Exec.{Exec}
+use Rattle.spu_elf.specs.declared.executables.Segment.{Segment}
+use Rattle.spu_elf.specs.declared.executables.Exec.{Exec}
 use Rattle.spu_lift.specs.declared.program.Operand.TheVariants as operand
 use Rattle.spu_lift.specs.declared.program.SymInst.{SymInst}
 use Rattle.spu_lift.specs.declared.program.CodeSection.{CodeSection}

@@ -6,7 +6,7 @@ use Rattle.spu_word.specs.Bytes.{be_number}
 use Rattle.spu_isa.proofs.Decoded.{one_instruction_lem}
 use Rattle.spu_elf.specs.declared.objects.Section.{Section}
 use Rattle.spu_elf.specs.declared.objects.Object.{Object}
-use Rattle.spu_elf.specs.declared.objects.Exec.{Exec}
+use Rattle.spu_elf.specs.declared.executables.Exec.{Exec}
 use Rattle.spu_lift.specs.FirstForm.{IsFirst, IsFirstSection, IsFirstInst, object_of}
 use Rattle.spu_elf.specs.FirstImage.{IsCode, image_of}
 use Rattle.spu_elf.specs.Spelling.{spell_exec}

@@ -6,8 +6,8 @@ use Rattle.spu_isa.specs.Table.{Decodes}
 use Rattle.spu_reloc.specs.declared.field.RelocKind.{RelocKind}
 use Rattle.spu_reloc.specs.Fields.{fits_on, patched}
 use Rattle.spu_elf.specs.declared.objects.Symbol.{Symbol}
-use Rattle.spu_elf.specs.declared.objects.Segment.{Segment}
-use Rattle.spu_elf.specs.declared.objects.Exec.{Exec}
+use Rattle.spu_elf.specs.declared.executables.Segment.{Segment}
+use Rattle.spu_elf.specs.declared.executables.Exec.{Exec}
 use Rattle.spu_elf.specs.declared.objects.SymKind.TheVariants as kinds
 use Rattle.spu_elf.specs.declared.objects.SymPlace.TheVariants as places
 use Rattle.spu_lift.specs.declared.program.Label.TheVariants as label

@@ -1,7 +1,7 @@
 -- What a link answers, for one object of the first form.
 use Rattle.std.specs.Prelude.{◌≡◌, ℕ, List, [], ◌∷◌}
 use Rattle.spu_elf.specs.declared.objects.Object.{Object}
-use Rattle.spu_elf.specs.declared.objects.Exec.{Exec}
+use Rattle.spu_elf.specs.declared.executables.Exec.{Exec}
 use Rattle.spu_lift.specs.FirstForm.{IsFirst}
 use Rattle.spu_elf.specs.Validity.{IsValidExec}
 use Rattle.spu_elf.specs.Spelling.{spell_exec}

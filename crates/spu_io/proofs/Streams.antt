@@ -3,6 +3,7 @@ use Rattle.std.proofs.Common.{◌≡◌, ℕ, ◌+◌, ◌≤◌, ◌⊎◌, inl
 use Rattle.std.proofs.Math.Seq.{take-add}
 use Rattle.std.proofs.lemmas.List.{append-nil, take_at, take_all}
 use Rattle.std.specs.Io.KnownBytes.{Appends, Consumes, IsAtEnd}
+use Rattle.spu_word.specs.declared.limits.TheConstants.{MAX_FILE_SIZE}
 use Rattle.spu_io.specs.Transfer.{ReadOn}
 
 pub consumes_more : (a b c : Option (List ℕ)) (bytes piece : List ℕ) → Consumes a b bytes → Consumes b c piece → Consumes a c (bytes ++ piece)
@@ -30,7 +31,7 @@ whole limit (Some all) (Some rest) bytes short taken (inl none) =
     sym (take_all limit bytes short) ∙ ap (take limit) (sym same)
 whole limit (Some all) (Some rest) bytes short taken (inr full) = sym (take_at bytes rest limit full) ∙ ap (take limit) (sym taken)
 
-pub read_whole : (left mid now : Option (List ℕ)) (bytes bytes_now : List ℕ) (n : ℕ) → Consumes left mid bytes → ReadOn mid now bytes bytes_now n → n ≡ 0 → IfSome left (λ (all : List ℕ). bytes_now ≡ take 4194305 all)
+pub read_whole : (left mid now : Option (List ℕ)) (bytes bytes_now : List ℕ) (n : ℕ) → Consumes left mid bytes → ReadOn mid now bytes bytes_now n → n ≡ 0 → IfSome left (λ (all : List ℕ). bytes_now ≡ take (MAX_FILE_SIZE + 1) all)
 read_whole left mid now bytes bytes_now n taken on none =
     let all_taken : Consumes left now bytes_now = subst (λ (w : List ℕ). Consumes left now w) (sym on.added) (consumes_more left mid now bytes on.piece taken on.taken) in
-    whole 4194305 left now bytes_now on.short all_taken (on.end none)
+    whole (MAX_FILE_SIZE + 1) left now bytes_now on.short all_taken (on.end none)

@@ -1,5 +1,5 @@
 -- What files in memory hold, and how they count their calls.
-use Rattle.std.specs.Prelude.{ℕ, ◌+◌, min, List}
+use Rattle.std.specs.Prelude.{ℕ, List}
 use Rattle.spu_io.specs.Outside.{Names, Last}
 use Rattle.spu_io.specs.NameTable.{names_of}
 use Rattle.spu_io.specs.FaultLog.{logged_count, logged_last}
@@ -12,10 +12,6 @@ held_names files = names_of files.names
 -- how many calls of `read` and `write` there were, up to the last value of 64 bits
 abbrev pub call_count : MemFiles → ℕ
 call_count files = files.calls
-
--- the number of the next call
-abbrev pub next_call : ℕ → ℕ
-next_call calls = min (calls + 1) 18446744073709551615
 
 -- how many of them failed
 abbrev pub fault_count : MemFiles → ℕ

@@ -1,6 +1,7 @@
 -- What is known of files and of a sink: what each name holds, which call failed last, and how a call
 -- may change them. A name is its bytes.
-use Rattle.std.specs.Prelude.{◌≡◌, ◌≢◌, ℕ, ◌+◌, ◌≤◌, min, ◌++◌, List, Option, Some, None, Result, Ok, Err, take}
+use Rattle.std.specs.Prelude.{◌≡◌, ◌≢◌, ℕ, ◌+◌, ◌-◌, ◌^◌, min, ◌++◌, List, Option, Some, None, Result, Ok, Err, take}
+use Rattle.spu_word.specs.declared.limits.TheConstants.{MAX_FILE_SIZE}
 use Rattle.spu_io.specs.declared.faults.FileFault.{FileFault}
 use Rattle.spu_io.specs.declared.faults.FileFault.TheVariants as file
 use Rattle.spu_io.specs.declared.faults.SinkFault.{SinkFault}
@@ -16,9 +17,13 @@ pub data Last : Type 0 where
   Read : (name : List ℕ) → Last
   Write : (name : List ℕ) → Last
 
--- a count of 64 bits rose, or stands at its last value
+-- one more, up to the last value of 64 bits, where a count stays
+abbrev pub next_count : ℕ → ℕ
+next_count count = min (count + 1) (2 ^ 64 - 1)
+
+-- a count rose by exactly one, or stood at its last value
 abbrev pub Rose : ℕ → ℕ → Type 0
-Rose before now = min (before + 1) 18446744073709551615 ≤ now
+Rose before now = now ≡ next_count before
 
 -- what a call that answered so did to the count of faults and the last fault: it answers Failed only
 -- where the count rose, and is then the last fault itself; any other call leaves both
@@ -33,10 +38,10 @@ PutCounted (Ok value) before now = now ≡ before
 PutCounted (Err sink.Failed) before now = Rose before now
 PutCounted (Err sink.OutOfMemory) before now = now ≡ before
 
--- a read gave the first bytes of what is held: all, or the first 4,194,305
+-- a read gave the first bytes of what is held: all of a file, or one byte more than a file may have
 abbrev pub Cut : Option (List ℕ) → List ℕ → Type 0
 Cut None bytes = Unit {0}
-Cut (Some held) bytes = bytes ≡ take 4194305 held
+Cut (Some held) bytes = bytes ≡ take (MAX_FILE_SIZE + 1) held
 
 -- the same, of a name, where it is told what names hold
 abbrev pub ReadOf : Option Names → List ℕ → List ℕ → Type 0

@@ -1,6 +1,7 @@
 //! Files and standard output of the system. What they hold is not told: here the proofs end.
 
-ghost use Rattle.std.specs.Prelude.{◌≡◌, ◌≤◌, length, None, IfOk};
+ghost use Rattle.std.specs.Prelude.{◌≡◌, ◌+◌, ◌≤◌, length, None, IfOk};
+ghost use Rattle.spu_word.specs.declared.limits.TheConstants.{MAX_FILE_SIZE};
 ghost use Rattle.spu_io.specs.Outside.{Counted, Nothing, Read};
 
 use crate::fault_log::{FaultLog, LastFault, copy_of};
@@ -21,6 +22,7 @@ pub struct DiskFiles<R> {
 }
 
 impl<R> DiskFiles<R> {
+    ghost use Rattle.spu_io.specs.FaultLog.{last_of};
     ghost use Rattle.spu_io.specs.Disk.{disk_faults, disk_last};
 
     /// The files of this system. Copies of names are made with `alloc`.
@@ -34,11 +36,18 @@ impl<R> DiskFiles<R> {
             log: FaultLog::new(),
         }
     }
+
+    /// The last call that failed.
+    pub fn last_fault(&self) -> &LastFault
+        ensures { last_of result.now ≡ disk_last self.now }
+    {
+        self.log.last()
+    }
 }
 
 // Reads a file of the system.
 fn read_file<R: rt::Files>(system: &R, alloc: Global, name: &str) -> Result<Bytes, FileFault>
-    ensures { IfOk result (λ bytes. length bytes ≤ 4194305) }
+    ensures { IfOk result (λ bytes. length bytes ≤ MAX_FILE_SIZE + 1) }
 {
     match fs::open(system, name) {
         Ok(mut file) => read_up_to_limit(alloc, &mut file),
@@ -61,9 +70,9 @@ impl<R: rt::Files> Files for DiskFiles<R> {
 
     ghost last = { disk_last };
 
-    /// As `Files::read`, and no read gives more than 4,194,305 bytes.
+    /// As `Files::read`, and no read gives more than `MAX_FILE_SIZE` and one byte.
     fn read(&mut self, alloc: Global, name: &str) -> Result<Bytes, FileFault>
-        ensures limit { IfOk result (λ bytes. length bytes ≤ 4194305) }
+        ensures limit { IfOk result (λ bytes. length bytes ≤ MAX_FILE_SIZE + 1) }
         ensures count { disk_faults self.old ≤ disk_faults self.new }
         ensures counted { Counted result (Read name.now) (disk_faults self.old) (disk_faults self.new) (disk_last self.old) (disk_last self.new) }
     {
@@ -129,6 +138,7 @@ impl<R: Print> Sink for StdSink<R> {
 #[cfg(test)]
 mod tests {
     use super::*;
+    use spu_word::limits::MAX_FILE_SIZE;
     use std::test::Fail;
 
     #[test]
@@ -149,12 +159,12 @@ mod tests {
     #[test]
     fn a_long_file_is_cut(rt: HostRuntime) -> Result<(), Fail> {
         let file = fs::create(&rt, "long.tmp")?;
-        file.set_len(5_000_000)?;
+        file.set_len(MAX_FILE_SIZE as u64 + 9)?;
         let mut files = DiskFiles::new(&rt, rt.alloc());
         let read = files.read(rt.alloc(), "long.tmp");
         fs::remove_file(&rt, "long.tmp")?;
         let bytes = read.ok().ok_or("not read")?;
-        assert_eq!(rt; bytes.len(), 4_194_305);
+        assert_eq!(rt; bytes.len(), MAX_FILE_SIZE as usize + 1);
         Ok(())
     }
 

@@ -21,10 +21,7 @@ pub enum LastFault {
 pub fn copy_of(alloc: Global, name: &str) -> Result<String, OutOfMemory>
     ensures { IfOk result (λ text. string_bytes text ≡ name.now) }
 {
-    match String::from_str(alloc, name) {
-        Ok(text) => Ok(text),
-        Err(_) => Err(OutOfMemory),
-    }
+    Ok(String::from_str(alloc, name)?)
 }
 
 /// How many calls failed, and the last of them.
@@ -46,6 +43,13 @@ impl FaultLog {
             count: 0,
             last: LastFault::Nothing,
         }
+    }
+
+    /// The last of them.
+    pub fn last(&self) -> &LastFault
+        ensures { last_of result.now ≡ logged_last self.now }
+    {
+        &self.last
     }
 
     /// Counts a call that failed. The count stays at its last value once it is there.

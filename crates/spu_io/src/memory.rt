@@ -1,7 +1,7 @@
 //! Files and a sink in memory, of which some calls fail: for tests.
 
 ghost use Rattle.std.specs.Prelude.{◌≡◌, ◌≤◌, ◌++◌, ◌⊎◌, ◌↔◌, List, [], None, Some, IfOk, OnOk, OnErr, IsErr, IsErrOf, IsTrue, Contains};
-ghost use Rattle.spu_io.specs.Outside.{Nothing, Read, Write, Cut, Replaced, Written, Counted, PutCounted};
+ghost use Rattle.spu_io.specs.Outside.{Nothing, Read, Write, Cut, Replaced, Written, Counted, PutCounted, next_count};
 ghost use Rattle.spu_io.specs.declared.faults.FileFault.TheVariants as file;
 ghost use Rattle.spu_io.specs.declared.faults.SinkFault.TheVariants as sink;
 
@@ -24,7 +24,7 @@ pub struct MemFiles {
 
 impl MemFiles {
     ghost use Rattle.std.specs.Prelude.{ℕ};
-    ghost use Rattle.spu_io.specs.MemFiles.{held_names, call_count, next_call, fault_count, last_fault, failing_calls};
+    ghost use Rattle.spu_io.specs.MemFiles.{held_names, call_count, fault_count, last_fault, failing_calls};
     ghost use Rattle.spu_io.specs.NameTable.{pointed_to};
 
     /// Files of which no name is held yet. `fails` lists the numbers of the calls that fail.
@@ -67,7 +67,7 @@ impl MemFiles {
     // Counts a call, and tells whether it is one that fails.
     fn begin(&mut self) -> bool
         ensures failing { IsTrue result ↔ Contains self.new.fails self.new.calls }
-        ensures calls { self.new.calls ≡ next_call self.old.calls }
+        ensures calls { self.new.calls ≡ next_count self.old.calls }
         ensures fails { self.new.fails ≡ self.old.fails }
         ensures names { self.new.names ≡ self.old.names }
         ensures log { self.new.log ≡ self.old.log }
@@ -78,7 +78,7 @@ impl MemFiles {
 }
 
 impl Files for MemFiles {
-    ghost use Rattle.spu_io.specs.MemFiles.{held_names, call_count, next_call, fault_count, last_fault, failing_calls};
+    ghost use Rattle.spu_io.specs.MemFiles.{held_names, call_count, fault_count, last_fault, failing_calls};
 
     ghost held = { λ files. Some (held_names files) };
 
@@ -94,7 +94,7 @@ impl Files for MemFiles {
         ensures count { fault_count self.old ≤ fault_count self.new }
         ensures counted { Counted result (Read name.now) (fault_count self.old) (fault_count self.new) (last_fault self.old) (last_fault self.new) }
 
-        ensures calls { call_count self.new ≡ next_call (call_count self.old) }
+        ensures calls { call_count self.new ≡ next_count (call_count self.old) }
         ensures fails { failing_calls self.new ≡ failing_calls self.old }
         ensures listed { Contains (failing_calls self.old) (call_count self.new) → IsErr result }
         ensures missing { held_names self.old name.now ≡ None → IsErr result }
@@ -124,7 +124,7 @@ impl Files for MemFiles {
         ensures count { fault_count self.old ≤ fault_count self.new }
         ensures counted { Counted result (Write name.now) (fault_count self.old) (fault_count self.new) (last_fault self.old) (last_fault self.new) }
 
-        ensures calls { call_count self.new ≡ next_call (call_count self.old) }
+        ensures calls { call_count self.new ≡ next_count (call_count self.old) }
         ensures fails { failing_calls self.new ≡ failing_calls self.old }
         ensures listed { Contains (failing_calls self.old) (call_count self.new) → IsErr result }
         ensures failed { IsErrOf result file.Failed → Contains (failing_calls self.old) (call_count self.new) }
@@ -177,7 +177,6 @@ impl MemSink {
 
 impl Sink for MemSink {
     ghost use Rattle.spu_io.specs.MemSink.{sunk_bytes, put_count, sink_faults, failing_puts};
-    ghost use Rattle.spu_io.specs.MemFiles.{next_call};
 
     ghost written = { λ sink. Some (sunk_bytes sink) };
 
@@ -191,7 +190,7 @@ impl Sink for MemSink {
         ensures count { sink_faults self.old ≤ sink_faults self.new }
         ensures counted { PutCounted result (sink_faults self.old) (sink_faults self.new) }
 
-        ensures calls { put_count self.new ≡ next_call (put_count self.old) }
+        ensures calls { put_count self.new ≡ next_count (put_count self.old) }
         ensures fails { failing_puts self.new ≡ failing_puts self.old }
         ensures listed { Contains (failing_puts self.old) (put_count self.new) → IsErr result }
         ensures failed { IsErrOf result sink.Failed → Contains (failing_puts self.old) (put_count self.new) }

@@ -1,19 +1,21 @@
 //! Names and what they hold, in memory.
 
-ghost use Rattle.std.specs.Prelude.{◌≡◌, OnOk, OnErr, List, None, string_bytes, take};
+ghost use Rattle.std.specs.Prelude.{◌≡◌, ◌+◌, OnOk, OnErr, List, None, string_bytes, take};
+ghost use Rattle.spu_word.specs.declared.limits.TheConstants.{MAX_FILE_SIZE};
 ghost use Rattle.spu_io.specs.Outside.{Replaced};
 
+use spu_word::limits::MAX_FILE_SIZE;
 use spu_word::{Bytes, OutOfMemory};
 use std::alloc::Global;
 use std::collections::BTreeMap;
 
 /// The most bytes that a read gives: one more than a file may have.
-pub const READ_LIMIT: usize = 4_194_305;
+pub const READ_LIMIT: usize = MAX_FILE_SIZE as usize + 1;
 
 /// The bytes that a read gives of what is held: all, or the first of them.
 #[tactic(auto, using(std::proofs::lemmas::List::take_min))]
 pub fn first_bytes(held: &[u8]) -> &[u8]
-    ensures { result.now ≡ take 4194305 held.now }
+    ensures { result.now ≡ take (MAX_FILE_SIZE + 1) held.now }
 {
     &held[..READ_LIMIT.min(held.len())]
 }

@@ -18,7 +18,7 @@ pub trait Files {
     /// The last call that failed.
     ghost last: { Self → Last };
 
-    /// Reads a file: all of it, or the first 4,194,305 bytes of a longer one. Of a name that holds
+    /// Reads a file: all of it, or the first `MAX_FILE_SIZE` and one bytes of a longer one. Of a name that holds
     /// nothing, what an answer gives is not told.
     fn read(&mut self, alloc: Global, name: &str) -> Result<Bytes, FileFault>
         ensures bytes { IfOk result (λ bytes. ReadOf (held self.old) name.now bytes) }

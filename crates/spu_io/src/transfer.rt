@@ -1,8 +1,9 @@
 //! Reading and writing whole streams, with the limit on what is read.
 
-ghost use Rattle.std.specs.Prelude.{◌≡◌, ◌≤◌, ◌<◌, ℕ, length, take, IfOk, IfSome, OnOk};
+ghost use Rattle.std.specs.Prelude.{◌≡◌, ◌+◌, ◌≤◌, ◌<◌, ℕ, length, take, IfOk, IfSome, OnOk};
 ghost use Rattle.std.specs.Io.{ReadsAtMost, WritesAtMost};
 ghost use Rattle.std.specs.Io.KnownBytes.{Appends, Consumes, IsAtEnd};
+ghost use Rattle.spu_word.specs.declared.limits.TheConstants.{MAX_FILE_SIZE};
 ghost use Rattle.spu_io.specs.Transfer.{ReadOn};
 
 use crate::faults::FileFault;
@@ -56,7 +57,7 @@ fn write_some<W: Write>(writer: &mut W, bytes: &[u8]) -> io::Result<usize>
 
 // Reads on after what was read, and tells how many bytes came: none at the end, and at the limit.
 fn read_chunk<R: Read>(reader: &mut R, bytes: &mut Bytes) -> Result<usize, FileFault>
-    requires { length bytes.old ≤ 4194305 }
+    requires { length bytes.old ≤ MAX_FILE_SIZE + 1 }
     ensures { IfOk result (ReadOn (R.remaining reader.old) (R.remaining reader.new) bytes.old bytes.new) }
 {
     let mut chunk = [0; CHUNK];
@@ -70,10 +71,10 @@ fn read_chunk<R: Read>(reader: &mut R, bytes: &mut Bytes) -> Result<usize, FileF
     }
 }
 
-/// Reads what a reader has left: all of it, or the first 4,194,305 bytes.
+/// Reads what a reader has left: all of it, or its first bytes, one more than a file may have.
 pub fn read_up_to_limit<R: Read>(alloc: Global, reader: &mut R) -> Result<Bytes, FileFault>
-    ensures limit { IfOk result (λ bytes. length bytes ≤ 4194305) }
-    ensures bytes { IfOk result (λ bytes. IfSome (R.remaining reader.old) (λ left. bytes ≡ take 4194305 left)) }
+    ensures limit { IfOk result (λ bytes. length bytes ≤ MAX_FILE_SIZE + 1) }
+    ensures bytes { IfOk result (λ bytes. IfSome (R.remaining reader.old) (λ left. bytes ≡ take (MAX_FILE_SIZE + 1) left)) }
 {
     let mut bytes = Bytes::new(alloc);
     for _ in 0..u64::MAX {

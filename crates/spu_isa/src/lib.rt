@@ -4,15 +4,19 @@
 mod decoding;
 mod encoding;
 mod instruction;
+mod laws;
 mod names;
 mod operation;
-mod rows;
+mod registers;
+mod table;
 #[cfg(test)]
 mod tests;
 
 pub use decoding::decode;
-pub use encoding::{encode, one_instruction, one_word, read_written, written_again};
+pub use encoding::encode;
 pub use instruction::Inst;
-pub use names::{mnemonic, op_named};
-pub use operation::{Format, Kind, Op, OpInfo};
-pub use rows::info;
+pub use laws::{decoding_follows_the_table, one_instruction, one_word};
+pub use names::op_named;
+pub use operation::{Format, Kind, OP_COUNT, Op, OpInfo};
+pub use registers::{has_ra, has_rb, has_rc};
+pub use table::{info, mnemonic};

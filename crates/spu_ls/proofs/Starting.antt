@@ -4,8 +4,8 @@ use Rattle.std.proofs.Common.{suc, ◌+◌, ◌%◌, ◌≤◌, arith, length, t
 use Rattle.std.specs.Prelude.{slice_get, ◌==◌, nat_le, nat_lt, not}
 use Rattle.std.specs.List.{position_or_len}
 use Rattle.std.proofs.lemmas.Bool.{and_parts, leb-true, lt-ltb}
-use Rattle.spu_elf.specs.declared.objects.Segment.{Segment}
-use Rattle.spu_elf.specs.declared.objects.Exec.{Exec}
+use Rattle.spu_elf.specs.declared.executables.Segment.{Segment}
+use Rattle.spu_elf.specs.declared.executables.Exec.{Exec}
 use Rattle.spu_ls.specs.Stores.{Store, placed}
 use Rattle.spu_ls.specs.Machine.{State}
 use Rattle.spu_ls.specs.Start.{loaded, start}

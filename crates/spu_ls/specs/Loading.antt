@@ -3,7 +3,7 @@ use Rattle.std.specs.Prelude.{◌≡◌, ℕ, ◌+◌, ◌%◌, ◌≤◌, ◌==
 use Rattle.std.specs.List.{position}
 use Rattle.spu_word.specs.declared.load.Area.{Area}
 use Rattle.spu_word.specs.declared.load.Inputs.{Inputs}
-use Rattle.spu_elf.specs.declared.objects.Segment.{Segment}
+use Rattle.spu_elf.specs.declared.executables.Segment.{Segment}
 
 -- no two areas have the same name
 abbrev pub AreDistinct : List Area → Type 0

@@ -14,7 +14,7 @@ use Rattle.spu_isa.specs.Table.{row_of}
 use Rattle.spu_isa.specs.Decoding.{decoded}
 use Rattle.spu_exec.specs.Values.{value}
 use Rattle.spu_exec.specs.Places.{code_mask, holds, taken, place}
-use Rattle.spu_exec.specs.Channels.{is_written, is_counted, count}
+use Rattle.spu_exec.specs.Channels.{is_written, is_counted, count_of}
 use Rattle.spu_ls.specs.Stores.{Store, load, fetch, save}
 use Rattle.spu_ls.specs.declared.ending.RunEnd.{RunEnd}
 use Rattle.spu_ls.specs.declared.ending.RunEnd.TheVariants as ending
@@ -103,7 +103,7 @@ is_pending (Some update) = true
 -- the count of a channel goes into register t
 abbrev pub counts : ℕ → ℕ → ℕ → State → State
 counts n t p s =
-    if is_counted n then sets t (quad_of (count n (is_pending s.update) (length s.mail)) 0 0 0) p s else ends (ending.BadChannel n) s
+    if is_counted n then sets t (quad_of (count_of n (is_pending s.update) 0 (length s.mail)) 0 0 0) p s else ends (ending.BadChannel n) s
 
 abbrev pub uses_channel : Op → Inst → ℕ → State → State
 uses_channel op.Wrch x p s = writes x.ra (word_of (s.regs x.rt) 0) p s

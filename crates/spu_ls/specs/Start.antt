@@ -1,7 +1,7 @@
 -- The state in which an executable starts: all registers, channels and bytes are zero but for its load segment.
 use Rattle.std.specs.Prelude.{ℕ, List, [], ◌∷◌, None, replicate, nat_lt, if◌then◌else◌}
-use Rattle.spu_elf.specs.declared.objects.Segment.{Segment}
-use Rattle.spu_elf.specs.declared.objects.Exec.{Exec}
+use Rattle.spu_elf.specs.declared.executables.Segment.{Segment}
+use Rattle.spu_elf.specs.declared.executables.Exec.{Exec}
 use Rattle.spu_exec.specs.Places.{code_mask}
 use Rattle.spu_ls.specs.Stores.{Store, placed}
 use Rattle.spu_ls.specs.Machine.{State}

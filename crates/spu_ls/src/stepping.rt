@@ -2,7 +2,7 @@
 
 ghost use Rattle.std.specs.Prelude.{◌≡◌, ◌≢◌, ◌↔◌, ◌⊎◌, ◌+◌, ◌*◌, ◌%◌, ◌^◌, ◌<◌, ◌≤◌, ℕ, Bool, true, List, [], length, drop, vec_len, vec_capacity, IfOk, Option, Some, None};
 ghost use Rattle.spu_exec.specs.Places.{code_mask, place};
-ghost use Rattle.spu_exec.specs.Channels.{is_counted, count};
+ghost use Rattle.spu_exec.specs.Channels.{is_counted, count_of};
 ghost use Rattle.spu_word.specs.Bytes.{word_of};
 ghost use Rattle.spu_isa.specs.declared.operation.Kind.{Kind};
 ghost use Rattle.spu_isa.specs.declared.operation.Kind.TheVariants as kind;
@@ -271,7 +271,7 @@ impl Machine {
 
     /// The count of a channel.
     fn count(&self, channel: u8) -> u32
-        ensures { result ≡ count channel (is_pending (state_of self.now).update) (length (state_of self.now).mail) }
+        ensures { result ≡ count_of channel (is_pending (state_of self.now).update) 0 (length (state_of self.now).mail) }
     {
         match channel {
             21 => 16,

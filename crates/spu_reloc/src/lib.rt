@@ -2,5 +2,7 @@
 #![tactic(auto)]
 
 pub mod field;
+mod law;
 
-pub use field::{RelocKind, fits, kind_of, patch};
+pub use field::{RelocKind, fits, fitting, kind_of, patch};
+pub use law::{patched_word, relocated_word};

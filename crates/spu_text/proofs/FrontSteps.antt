@@ -3,6 +3,7 @@ use Rattle.std.proofs.Common.{◌≡◌, ℕ, zero, suc, ◌+◌, ◌-◌, ◌�
 use Rattle.std.specs.Prelude.{◌==◌, nat_lt}
 use Rattle.std.specs.List.{list_all}
 use Rattle.std.proofs.lemmas.Bool.{cases_Bool}
+use Rattle.spu_word.specs.declared.limits.TheConstants.{MAX_LINE_SIZE}
 use Rattle.spu_text.specs.declared.lexemes.Token.{Token}
 use Rattle.spu_text.specs.declared.lexemes.TokenKind.{TokenKind}
 use Rattle.spu_text.specs.declared.lexemes.TextFault.{TextFault}
@@ -38,7 +39,7 @@ line_line : (n at : ℕ) (l : List ℕ) (e : TextFault) → line_read n at l ≡
 unfolding line_read
 line_line n at l e same = elim (cases_Bool (list_all is_source_byte (content l))) [
   | inr other ↦ sym (ap line_of (err_is _ (faults.NotAscii n) e refl (rw other at same)))
-  | inl is ↦ elim (cases_Bool (nat_lt 512 (length (content l)))) [
+  | inl is ↦ elim (cases_Bool (nat_lt MAX_LINE_SIZE (length (content l)))) [
     | inl long ↦ sym (ap line_of (err_is _ (faults.LineTooLong n) e refl (rw (is, long) at same)))
     | inr short ↦ scan_line n at 0 (content l) e (rw (is, short) at same)
   ]

@@ -9,10 +9,10 @@ use Rattle.spu_text.specs.declared.lexemes.TextFault.TheVariants.{NotAscii, Line
 use Rattle.spu_text.specs.Reads.{Fails, Gives}
 use Rattle.spu_text.specs.Texts.{lines_of, lines_read, line_read, line_len, onto, with_front, ◌>>=◌}
 
-line_len_more : (b : ℕ) (s : List ℕ) → (b == 10) ≡ false → line_len (b ∷ s) ≡ suc (line_len s)
+pub line_len_more : (b : ℕ) (s : List ℕ) → (b == 10) ≡ false → line_len (b ∷ s) ≡ suc (line_len s)
 line_len_more b s h = rw h (omega arith)
 
-line_len_now : (b : ℕ) (s : List ℕ) → (b == 10) ≡ true → line_len (b ∷ s) ≡ 1
+pub line_len_now : (b : ℕ) (s : List ℕ) → (b == 10) ≡ true → line_len (b ∷ s) ≡ 1
 line_len_now b s h = rw h (omega arith)
 
 -- the first line, and the lines behind it

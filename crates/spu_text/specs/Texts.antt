@@ -3,6 +3,7 @@ use Rattle.std.specs.Prelude.{ℕ, zero, suc, ◌+◌, ◌-◌, ◌^◌, ◌*◌
 use Rattle.std.specs.List.{prefix_len, list_all}
 use Rattle.std.specs.Str.Parse.{digits_value}
 use Rattle.std.specs.Char.{digit_value, is_ascii_digit, is_ascii_alphanumeric}
+use Rattle.spu_word.specs.declared.limits.TheConstants.{MAX_LINE_SIZE}
 use Rattle.spu_text.specs.declared.lexemes.Token.{Token}
 use Rattle.spu_text.specs.declared.lexemes.TokenKind.{TokenKind}
 use Rattle.spu_text.specs.declared.lexemes.TokenKind.TheVariants as kinds
@@ -130,7 +131,7 @@ content l = let n = prefix_len is_no_newline l in
 unfoldable pub line_read : ℕ → ℕ → List ℕ → Result (List Token) TextFault
 line_read line at l =
     if not (list_all is_source_byte (content l)) then Err (faults.NotAscii line)
-    else (if nat_lt 512 (length (content l)) then Err (faults.LineTooLong line)
+    else (if nat_lt MAX_LINE_SIZE (length (content l)) then Err (faults.LineTooLong line)
     else scan line at 0 (content l))
 
 -- those of the lines from this one on

@@ -34,7 +34,7 @@ pub struct Token {
 pub enum TextFault {
     /// A1: a byte other than 9, 10, 13 and 32 to 126.
     NotAscii(u32),
-    /// A2: more than 512 bytes.
+    /// A2: more than `MAX_LINE_SIZE` bytes.
     LineTooLong(u32),
     /// A3: a word that begins with a digit and is no number below 2^128.
     BadNumber(u32),

@@ -2,18 +2,18 @@
 
 ghost use Rattle.std.specs.Prelude.{◌≡◌, ◌+◌, ◌==◌, ◌&&◌, not, nat_le, ◌<◌, ◌≤◌, ◌^◌, length, take, IfOk, Ok, Err};
 ghost use Rattle.std.specs.List.{prefix_len, list_all};
+ghost use Rattle.spu_word.specs.declared.limits.TheConstants.{MAX_FILE_SIZE};
 ghost use Rattle.spu_text.specs.Texts.{is_no_newline, is_source_byte, line_len, content, line_read, lines_of, lines_read, text_read};
 ghost use Rattle.spu_text.specs.Reads.{Gives, Adds};
+ghost use Rattle.spu_text.specs.Order.{AreInOrder};
 ghost use Rattle.spu_text.specs.Fronts.{IsFront, read_before};
 ghost use Rattle.spu_text.specs.declared.lexemes.TextFault.TheVariants as faults;
 
 use crate::lexemes::{TextFault, Token};
 use crate::scanning::scan;
+use spu_word::limits::MAX_LINE_SIZE;
 use spu_word::{OutOfMemory, Seq};
 use std::alloc::Global;
-
-/// How many bytes a line may have, without its end.
-const LONGEST_LINE: usize = 512;
 
 #[tactic(auto, unfolding(crate::specs::Texts::is_source_byte))]
 fn is_source_byte(b: u8) -> bool
@@ -74,7 +74,7 @@ fn read_line(all: &mut Seq<Token>, line: &[u8], start: usize, number: u32) -> Re
     if !is_source(bytes) {
         return Err(TextFault::NotAscii(number));
     }
-    if bytes.len() > LONGEST_LINE {
+    if bytes.len() > MAX_LINE_SIZE as usize {
         return Err(TextFault::LineTooLong(number));
     }
     scan(all, bytes, start, number)
@@ -82,7 +82,7 @@ fn read_line(all: &mut Seq<Token>, line: &[u8], start: usize, number: u32) -> Re
 
 /// How many lines a text has. Bytes behind the last byte 10 are a line too.
 pub fn line_count(text: &[u8]) -> u32
-    requires { length text.now ≤ 4194304 }
+    requires { length text.now ≤ MAX_FILE_SIZE }
     ensures { result ≡ length (lines_of text.now) }
 {
     let mut rest = text;
@@ -103,7 +103,7 @@ fn has_line(rest: &[u8], number: u32, count: u32) -> bool
 
 /// The tokens of the first `count` lines of a text, in order.
 fn tokens_of_lines(alloc: Global, text: &[u8], count: u32) -> Result<Seq<Token>, TextFault>
-    requires { length text.now ≤ 4194304 }
+    requires { length text.now ≤ MAX_FILE_SIZE }
     ensures { Gives result (lines_read 1 0 (take count (lines_of text.now))) }
 {
     let mut all = Seq::new(alloc);
@@ -120,10 +120,12 @@ fn tokens_of_lines(alloc: Global, text: &[u8], count: u32) -> Result<Seq<Token>,
     Ok(all)
 }
 
-/// The tokens of a text, in order.
+/// The tokens of a text, in order: slices of it, with blanks, ends of lines and comments alone between
+/// them. The text has at most `MAX_FILE_SIZE` bytes.
 pub fn tokens(alloc: Global, text: &[u8]) -> Result<Seq<Token>, TextFault>
-    requires { length text.now ≤ 4194304 }
-    ensures { Gives result (text_read text.now) }
+    requires { length text.now ≤ MAX_FILE_SIZE }
+    ensures tokens { Gives result (text_read text.now) }
+    ensures order { IfOk result (AreInOrder text.now 0) }
 {
     tokens_of_lines(alloc, text, u32::MAX)
 }
@@ -145,7 +147,7 @@ fn want_of_memory(fault: TextFault) -> OutOfMemory
 
 /// The tokens of the lines before the one that is faulty.
 fn tokens_before(alloc: Global, text: &[u8], fault: TextFault) -> Result<Seq<Token>, OutOfMemory>
-    requires short { length text.now ≤ 4194304 }
+    requires short { length text.now ≤ MAX_FILE_SIZE }
     requires fault { text_read text.now ≡ Err fault }
     ensures { IfOk result (λ ts. read_before text.now fault ≡ Ok ts) }
 {
@@ -155,10 +157,12 @@ fn tokens_before(alloc: Global, text: &[u8], fault: TextFault) -> Result<Seq<Tok
     }
 }
 
-/// The tokens of a text up to its first line that has none, and why that line has none.
+/// The tokens of a text up to its first line that has none, and why that line has none. They stand in
+/// order as those of `tokens` do. The text has at most `MAX_FILE_SIZE` bytes.
 pub fn front_tokens(alloc: Global, text: &[u8]) -> Result<Front, OutOfMemory>
-    requires { length text.now ≤ 4194304 }
-    ensures { IfOk result (λ f. IsFront text.now f.tokens f.fault) }
+    requires { length text.now ≤ MAX_FILE_SIZE }
+    ensures front { IfOk result (λ f. IsFront text.now f.tokens f.fault) }
+    ensures order { IfOk result (λ f. AreInOrder text.now 0 f.tokens) }
 {
     match tokens(alloc, text) {
         Ok(tokens) => Ok(Front {

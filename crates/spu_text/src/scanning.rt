@@ -2,6 +2,7 @@
 
 ghost use Rattle.std.specs.Prelude.{true, false, ◌≡◌, ◌+◌, ◌<◌, ◌≤◌, ◌^◌, length, IfSome, slice_index};
 ghost use Rattle.std.specs.List.{prefix_len, list_all};
+ghost use Rattle.spu_word.specs.declared.limits.TheConstants.{MAX_LINE_SIZE};
 ghost use Rattle.spu_text.specs.Texts.{is_space, is_source_byte, is_word_byte, closing, piece_of, is_over, scan};
 ghost use Rattle.spu_text.specs.Reads.{Adds};
 
@@ -89,7 +90,7 @@ fn is_over(rest: &[u8]) -> bool
 
 /// Adds the tokens of a line, which stands at `start`.
 pub fn scan(all: &mut Seq<Token>, line: &[u8], start: usize, number: u32) -> Result<(), TextFault>
-    requires short { length line.now ≤ 512 }
+    requires short { length line.now ≤ MAX_LINE_SIZE }
     requires early { start < 2 ^ 32 }
     ensures { Adds result all.old all.new (scan number start 0 line.now) }
 {

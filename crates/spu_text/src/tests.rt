@@ -1,4 +1,5 @@
 ghost use Rattle.std.specs.Prelude.{◌≤◌, length};
+ghost use Rattle.spu_word.specs.declared.limits.TheConstants.{MAX_FILE_SIZE};
 
 use crate::{TextFault, Token, TokenKind, front_tokens, tokens};
 use std::alloc::Global;
@@ -33,7 +34,7 @@ fn kinds_and_places(rt: HostRuntime) -> Result<(), Fail> {
 
 /// The fault of a text.
 fn fault(alloc: Global, text: &[u8]) -> Option<TextFault>
-    requires { length text.now ≤ 4194304 }
+    requires { length text.now ≤ MAX_FILE_SIZE }
 {
     tokens(alloc, text).err()
 }

@@ -1,6 +1,6 @@
-pub mod Firsts
+pub mod FileLists
 pub mod Growing
 pub mod Loads
-pub mod Mapped
 pub mod Members
 pub mod Seeing
+pub mod Sound

@@ -1,11 +1,13 @@
 -- The members of a list, one after another.
-use Rattle.std.proofs.Common.{◌≡◌, ℕ, ◌+◌, ◌==◌, Bool, count_by, true, false, cond, List, [], ◌∷◌, length, take, drop, Some, None, refl, arith, subst}
+use Rattle.std.proofs.Common.{◌≡◌, ℕ, ◌+◌, ◌==◌, ◌<◌, ◌≤◌, Bool, count_by, true, false, cond, List, [], ◌∷◌, length, take, drop, Some, None, refl, arith, subst}
 use Rattle.std.specs.Prelude.{nat_lt}
 use Rattle.std.specs.List.{position_or_len}
 use Rattle.std.proofs.lemmas.Bool.Decides.{nat_tests}
 use Rattle.std.proofs.lemmas.List.Sums.{fails_before_first}
 use Rattle.std.proofs.lemmas.List.Splits.{slice_split_none, slice_split_first, length-slice_split}
-use Rattle.spu_tool.specs.Lists.{first_comma, members_of}
+use Rattle.std.specs.List.{list_all}
+use Rattle.spu_word.specs.declared.limits.TheConstants.{MAX_MAIL}
+use Rattle.spu_tool.specs.Lists.{first_comma, members_of, is_word, words_of, mail_of}
 
 -- the first member ends before the first comma
 pub cut_at : (list : List ℕ) (i : ℕ) → first_comma list ≡ Some i → members_of list ≡ take i list ∷ members_of (drop (i + 1) list)
@@ -28,3 +30,12 @@ uncut list e = step (nat_lt (position_or_len (λ c. c == 44) list) (length list)
 -- there is one member more than commas
 pub counted : (list : List ℕ) → length (members_of list) ≡ count_by (λ c. c == 44) list + 1
 counted list = length-slice_split (λ c. c == 44) list
+
+pub too_many : (list : List ℕ) → MAX_MAIL < length (members_of list) → mail_of list ≡ None
+too_many list h = grind (arith, nat_tests)
+
+pub all_words : (list : List ℕ) → length (members_of list) ≤ MAX_MAIL → list_all is_word (members_of list) ≡ true → mail_of list ≡ Some (words_of (members_of list))
+all_words list few all = grind (arith, nat_tests)
+
+pub no_word : (list : List ℕ) → list_all is_word (members_of list) ≡ false → mail_of list ≡ None
+no_word list h = grind (arith, nat_tests)

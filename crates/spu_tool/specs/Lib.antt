@@ -1,8 +1,8 @@
 pub mod Statuses
 pub mod Numbers
 pub mod Lists
-pub mod Words
-pub mod FileFaults
+pub mod Options
+pub mod Arguments
+pub mod FaultLines
 pub mod Makes
-pub mod Commands
 pub mod Outcomes

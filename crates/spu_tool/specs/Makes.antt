@@ -1,5 +1,5 @@
--- What a command makes of the bytes of its input: a status, an output file where it has one, and a text.
-use Rattle.std.specs.Prelude.{◌≡◌, ℕ, ◌+◌, ◌-◌, ◌^◌, ◌<◌, ◌≤◌, ◌/◌, ◌%◌, ◌++◌, ◌∷◌, [], ◌⊎◌, nat_lt, if◌then◌else◌, List, length, Option, Some, None, codes}
+-- What a command makes of the bytes of its files: a status, an output file where it has one, and a text.
+use Rattle.std.specs.Prelude.{◌≡◌, ℕ, ◌+◌, ◌-◌, ◌^◌, ◌<◌, ◌≤◌, ◌/◌, ◌%◌, ◌++◌, ◌∷◌, [], ◌⊎◌, nat_lt, if◌then◌else◌, List, length, slice_index_or, Option, Some, None, codes}
 use Rattle.std.specs.List.{flat_map}
 use Rattle.std.specs.Fmt.{decimal}
 use Rattle.spu_elf.specs.declared.objects.Object.{Object}
@@ -7,15 +7,15 @@ use Rattle.spu_elf.specs.declared.faults.ElfKind.{ElfKind}
 use Rattle.spu_elf.specs.declared.faults.ElfFault.{ElfFault}
 use Rattle.spu_elf.specs.declared.faults.ElfFault.TheVariants as faults
 use Rattle.spu_elf.specs.Reading.{object_fault, object_in}
-use Rattle.spu_elf.specs.declared.objects.Segment.{Segment}
+use Rattle.spu_elf.specs.declared.executables.Segment.{Segment}
 use Rattle.spu_lift.specs.FirstForm.{IsFirst}
 use Rattle.spu_elf.specs.Spelling.{spell}
-use Rattle.spu_tool.specs.FileFaults.{elf_line}
+use Rattle.spu_tool.specs.FaultLines.{asm_line, elf_line, form_line, segment_line}
 use Rattle.spu_lift.specs.declared.program.Prog.{Prog}
 use Rattle.spu_image.specs.declared.outcome.Linked.{Linked}
 use Rattle.spu_image.specs.Layout.{code_end}
 use Rattle.spu_image.specs.Linking.{IsLinked}
-use Rattle.spu_elf.specs.declared.objects.Exec.{Exec}
+use Rattle.spu_elf.specs.declared.executables.Exec.{Exec}
 use Rattle.spu_elf.specs.Executables.{exec_fault}
 use Rattle.spu_elf.specs.Validity.{IsValidExec}
 use Rattle.spu_elf.specs.Spelling.{spell_exec}
@@ -23,30 +23,30 @@ use Rattle.spu_word.specs.declared.load.LoadFault.{LoadFault}
 use Rattle.spu_word.specs.declared.load.LoadFault.TheVariants as loads
 use Rattle.spu_asm.specs.Assembly.{Assembles, IsFaultOf}
 use Rattle.spu_asm.specs.Faults.{Fault}
-use Rattle.spu_asm.specs.declared.faults.AsmKind.{AsmKind}
-use Rattle.spu_asm.specs.declared.faults.AsmKind.TheVariants as asm
 use Rattle.spu_ls.specs.Machine.{State, steps}
 use Rattle.spu_ls.specs.Start.{start}
 use Rattle.spu_ls.specs.Loading.{first_outside}
 use Rattle.spu_ls.specs.Ends.{end_of}
 use Rattle.spu_ls.specs.declared.ending.RunEnd.{RunEnd}
 use Rattle.spu_ls.specs.declared.ending.RunEnd.TheVariants as ending
+use Rattle.spu_word.specs.declared.limits.TheConstants.{STACK_TOP, DATA_START}
+use Rattle.spu_tool.specs.declared.link_command.TheConstants.{DEFAULT_LIMIT}
 use Rattle.spu_tool.specs.declared.made.Made.{Made}
+use Rattle.spu_tool.specs.declared.options.RunOptions.{RunOptions}
+use Rattle.spu_tool.specs.declared.request.Action.{Action}
+use Rattle.spu_tool.specs.declared.request.Action.TheVariants as action
+use Rattle.spu_tool.specs.Options.{AreSound}
 use Rattle.spu_tool.specs.declared.status.Status.{Status}
 use Rattle.spu_tool.specs.declared.status.Status.TheVariants as status
 
 abbrev pub made : Status → Option (List ℕ) → List ℕ → Made
 made answer file text = record { status = answer; file = file; text = text }
 
--- a fault's line
+-- the input has a fault, which this line tells
 abbrev pub refused : List ℕ → Made
-refused text = made status.Refused None (text ++ 10 ∷ [])
+refused line = made status.Refused None line
 
 -- ---- link
-
--- the stack's size, if the words don't say it
-abbrev pub default_limit : ℕ
-default_limit = 16384
 
 abbrev pub count_line : List ℕ → ℕ → List ℕ
 count_line what count = what ++ codes " " ++ decimal count ++ codes "\n"
@@ -58,7 +58,8 @@ share_line what part whole = what ++ codes " " ++ decimal part ++ codes " of " +
 -- code ends
 abbrev pub summary_of : ℕ → ℕ → ℕ → ℕ → List ℕ
 summary_of functions need limit top =
-    codes "image flat\n" ++ count_line (codes "functions") functions ++ share_line (codes "stack") need limit ++ share_line (codes "top") top (262112 - limit)
+    codes "image flat\n" ++ count_line (codes "functions") functions
+    ++ share_line (codes "stack") need limit ++ share_line (codes "top") top (STACK_TOP - limit)
 
 abbrev pub summary : Prog → ℕ → ℕ → List ℕ
 summary p limit need = summary_of (length p.functions - 1) need limit (code_end p)
@@ -67,7 +68,7 @@ summary p limit need = summary_of (length p.functions - 1) need limit (code_end 
 pub record HasRoot (l : Linked) : Type 0 where
   pub root : Segment
   pub only : l.exec.segments ≡ root ∷ []
-  pub end : 128 + length root.bytes ≡ code_end l.prog
+  pub end : DATA_START + length root.bytes ≡ code_end l.prog
   pub small : length root.bytes < 2 ^ 32
   pub started : 1 ≤ length l.prog.functions
 
@@ -75,21 +76,21 @@ pub record HasRoot (l : Linked) : Type 0 where
 pub record LinksTo (bytes : List ℕ) (m : Made) : Type 0 where
   pub read : object_fault bytes ≡ None
   pub linked : Linked
-  pub link : IsLinked (object_in bytes ∷ []) default_limit linked
-  pub is : m ≡ made status.Ok (Some linked.file) (summary linked.prog default_limit 0)
+  pub link : IsLinked (object_in bytes ∷ []) DEFAULT_LIMIT linked
+  pub is : m ≡ made status.Ok (Some linked.file) (summary linked.prog DEFAULT_LIMIT 0)
 
 -- it isn't of the first form
 pub record LinksNot (name bytes : List ℕ) (m : Made) : Type 0 where
   pub read : object_fault bytes ≡ None
   pub other : IsFirst (object_in bytes) → ⊥
-  pub is : m ≡ refused (codes "L0 NotBuilt " ++ name)
+  pub is : m ≡ refused (form_line name)
 
--- a check of the file fails, the first at this place
+-- a check of the file fails, the first at this offset
 pub record ReadsNot (fault : Option ElfFault) (name : List ℕ) (m : Made) : Type 0 where
   pub kind : ElfKind
-  pub place : ℕ
-  pub first : fault ≡ Some (faults.Fault kind place)
-  pub is : m ≡ made status.Refused None (elf_line kind name place)
+  pub offset : ℕ
+  pub first : fault ≡ Some (faults.Fault kind offset)
+  pub is : m ≡ refused (elf_line kind name offset)
 
 abbrev pub MakesLink : List ℕ → List ℕ → Made → Type 0
 MakesLink name bytes m = LinksTo bytes m ⊎ (LinksNot name bytes m ⊎ ReadsNot (object_fault bytes) name m)
@@ -102,24 +103,11 @@ pub record AssemblesTo (text : List ℕ) (m : Made) : Type 0 where
   pub assembles : Assembles text object
   pub is : m ≡ made status.Ok (Some (spell object)) []
 
--- the number and the name of a fault
-abbrev pub asm_name : AsmKind → List ℕ
-asm_name asm.NotAscii = codes "A1 NotAscii"
-asm_name asm.LineTooLong = codes "A2 LineTooLong"
-asm_name asm.BadNumber = codes "A3 BadNumber"
-asm_name asm.UnknownMnemonic = codes "A4 UnknownMnemonic"
-asm_name asm.BadOperand = codes "A5 BadOperand"
-asm_name asm.Range = codes "A6 Range"
-asm_name asm.DuplicateLabel = codes "A7 DuplicateLabel"
-asm_name asm.BadDirective = codes "A8 BadDirective"
-asm_name asm.SectionTooLarge = codes "A9 SectionTooLarge"
-asm_name asm.TooLarge = codes "A10 TooLarge"
-
 -- the text has this fault
 pub record AssemblesNot (text : List ℕ) (m : Made) : Type 0 where
   pub fault : Fault
   pub has : IsFaultOf text fault
-  pub is : m ≡ refused (asm_name fault.kind ++ codes " " ++ decimal fault.line)
+  pub is : m ≡ refused (asm_line fault.kind fault.line)
 
 abbrev pub MakesAssemble : List ℕ → Made → Type 0
 MakesAssemble text m = AssemblesTo text m ⊎ AssemblesNot text m
@@ -131,7 +119,8 @@ abbrev pub hex_digit : ℕ → ℕ
 hex_digit n = if nat_lt n 10 then 48 + n else 87 + n
 
 abbrev pub hexadecimal : ℕ → List ℕ
-hexadecimal n = hex_digit (n / 4096 % 16) ∷ hex_digit (n / 256 % 16) ∷ hex_digit (n / 16 % 16) ∷ hex_digit (n % 16) ∷ []
+hexadecimal n =
+    hex_digit (n / 4096 % 16) ∷ hex_digit (n / 256 % 16) ∷ hex_digit (n / 16 % 16) ∷ hex_digit (n % 16) ∷ []
 
 -- how a run ended; one that hasn't has made its steps
 abbrev pub end_line : RunEnd → List ℕ
@@ -162,15 +151,15 @@ abbrev pub run_text : State → List ℕ
 run_text s = flat_map out_line s.output ++ end_line (end_of s.ended) ++ count_line (codes "steps") s.steps
 
 -- the executable is run from its start, with this mail in its inbound mailbox
-pub record Runs (exec : Exec) (budget : ℕ) (mail : List ℕ) (m : Made) : Type 0 where
+pub record Runs (exec : Exec) (options : RunOptions) (m : Made) : Type 0 where
   pub fits : first_outside exec.segments ≡ None
-  pub is : let s = steps budget (start exec mail) in m ≡ made (status_of (end_of s.ended)) None (run_text s)
+  pub is : let s = steps options.steps (start exec options.mail) in m ≡ made (status_of (end_of s.ended)) None (run_text s)
 
 -- a segment doesn't lie in the local store, the first of this number
 pub record LoadsNot (exec : Exec) (m : Made) : Type 0 where
   pub number : ℕ
   pub first : first_outside exec.segments ≡ Some number
-  pub is : m ≡ refused (codes "M4 SegmentRange " ++ decimal number)
+  pub is : m ≡ refused (segment_line number)
 
 -- with no areas, a load is refused for a segment alone, or for want of memory
 abbrev pub IsOfSegment : LoadFault → Type 0
@@ -184,15 +173,31 @@ IsOfSegment (loads.AreaRange name) = ⊥
 pub record NamesSegment (fault : LoadFault) (m : Made) : Type 0 where
   pub number : ℕ
   pub segment : fault ≡ loads.SegmentRange number
-  pub is : m ≡ refused (codes "M4 SegmentRange " ++ decimal number)
+  pub is : m ≡ refused (segment_line number)
 
 -- the bytes spell an executable, which is run or can't be loaded
-pub record RunsTo (budget : ℕ) (mail bytes : List ℕ) (m : Made) : Type 0 where
+pub record RunsTo (options : RunOptions) (bytes : List ℕ) (m : Made) : Type 0 where
   pub read : exec_fault bytes ≡ None
   pub exec : Exec
   pub valid : IsValidExec exec
   pub spelled : spell_exec exec ≡ bytes
-  pub made : Runs exec budget mail m ⊎ LoadsNot exec m
+  pub made : Runs exec options m ⊎ LoadsNot exec m
 
-abbrev pub MakesRun : List ℕ → ℕ → List ℕ → List ℕ → Made → Type 0
-MakesRun name budget mail bytes m = RunsTo budget mail bytes m ⊎ ReadsNot (exec_fault bytes) name m
+abbrev pub MakesRun : RunOptions → List ℕ → List ℕ → Made → Type 0
+MakesRun options name bytes m = RunsTo options bytes m ⊎ ReadsNot (exec_fault bytes) name m
+
+-- ---- by the action: the names of its files, and their bytes
+
+abbrev pub first : List (List ℕ) → List ℕ
+first xs = slice_index_or xs 0 []
+
+abbrev pub MakesBy : Action → List (List ℕ) → List (List ℕ) → Made → Type 0
+MakesBy action.Assemble names files = MakesAssemble (first files)
+MakesBy action.Link names files = MakesLink (first names) (first files)
+MakesBy (action.Run options) names files = MakesRun options (first names) (first files)
+
+-- how many files an action has, and what its options keep
+abbrev pub IsComplete : Action → ℕ → Type 0
+IsComplete action.Assemble files = 1 ≤ files
+IsComplete action.Link files = 1 ≤ files
+IsComplete (action.Run options) files = (1 ≤ files) × AreSound options

@@ -4,14 +4,18 @@ use Rattle.std.specs.List.{list_all}
 use Rattle.std.specs.Str.{bytes_eq}
 use Rattle.std.specs.Str.Parse.{digits_value}
 use Rattle.std.specs.Char.{digit_value}
+use Rattle.spu_tool.specs.declared.numbers.TheConstants.{MAX_WORD}
 
 -- the number that at least one digit writes
 abbrev pub digits_number : ℕ → List ℕ → Option ℕ
-digits_number radix ds = if not (length ds == 0) && list_all (λ c. nat_lt (digit_value c) radix) ds then Some (digits_value radix ds) else None
+digits_number radix ds =
+    if not (length ds == 0) && list_all (λ c. nat_lt (digit_value c) radix) ds
+    then Some (digits_value radix ds) else None
 
 -- the number that a text writes
 abbrev pub number_of : List ℕ → Option ℕ
-number_of text = if bytes_eq (take 2 text) (codes "0x") then digits_number 16 (drop 2 text) else digits_number 10 text
+number_of text =
+    if bytes_eq (take 2 text) (codes "0x") then digits_number 16 (drop 2 text) else digits_number 10 text
 
 -- a number that is at most the bound
 abbrev pub bounded : ℕ → Option ℕ → Option ℕ
@@ -21,6 +25,12 @@ bounded most (Some n) = if nat_le n most then Some n else None
 abbrev pub number_within : ℕ → List ℕ → Option ℕ
 number_within most text = bounded most (number_of text)
 
+-- a number of 32 bits
+abbrev pub word_of : List ℕ → Option ℕ
+word_of text = number_within MAX_WORD text
+
 -- n with one digit more
 abbrev pub with_digit : ℕ → ℕ → ℕ → ℕ → Option ℕ
-with_digit radix most n c = if nat_lt (digit_value c) radix && nat_le (n * radix + digit_value c) most then Some (n * radix + digit_value c) else None
+with_digit radix most n c =
+    if nat_lt (digit_value c) radix && nat_le (n * radix + digit_value c) most
+    then Some (n * radix + digit_value c) else None

@@ -1,13 +1,14 @@
--- What a call of the tool does: the status that it answers, the file that it writes, and the text that it puts, by its
--- words and by the bytes of its input. Words are judged first; then the input is read, then it is judged, then the
+-- What a call of the tool does: the status that it answers, the file that it writes, and the text that it puts, by its words
+-- and by the bytes of its files. Words are judged first; then all files are read, in order; then they are judged, then the
 -- output file is written, and last the text is put.
-use Rattle.std.specs.Prelude.{◌≡◌, ◌≢◌, ℕ, ◌++◌, ◌∷◌, [], ◌⊎◌, List, Option, Some, None, codes}
+use Rattle.std.specs.Prelude.{◌≡◌, ◌≢◌, ℕ, ◌++◌, ◌∷◌, [], ◌⊎◌, List, Option, Some, None, Result, Ok, Err, Contains, codes}
 use Rattle.std.specs.Fmt.{decimal}
+use Rattle.spu_io.specs.declared.faults.FileFault.{FileFault}
+use Rattle.spu_io.specs.declared.faults.FileFault.TheVariants as file
 use Rattle.spu_io.specs.Outside.{Names, Last, Read, Write, Rose, ReadOf, Wrote, Spoiled, Gained, GainedPrefix}
-use Rattle.spu_tool.specs.Words.{verb_named, operand, steps_of, mail_of, word_fault}
-use Rattle.spu_tool.specs.Makes.{MakesAssemble, MakesLink, MakesRun}
-use Rattle.spu_tool.specs.declared.words.Verb.{Verb}
-use Rattle.spu_tool.specs.declared.words.Verb.TheVariants.{Assemble, Link, Run}
+use Rattle.spu_tool.specs.Arguments.{Asked, asked}
+use Rattle.spu_tool.specs.Makes.{MakesBy}
+use Rattle.spu_tool.specs.Statuses.{number_of}
 use Rattle.spu_tool.specs.declared.made.Made.{Made}
 use Rattle.spu_tool.specs.declared.status.Status.{Status}
 use Rattle.spu_tool.specs.declared.status.Status.TheVariants as status
@@ -20,6 +21,10 @@ pub record Seen : Type 0 where
   pub written : Option (List ℕ)
   pub sink_faults : ℕ
 
+abbrev pub seen : Option Names → ℕ → Last → Option (List ℕ) → ℕ → Seen
+seen held faults last written sink_faults =
+    record { held = held; faults = faults; last = last; written = written; sink_faults = sink_faults }
+
 -- the files' faults are as before, and so are the sink's
 pub record FilesWell (a b : Seen) : Type 0 where
   pub faults : b.faults ≡ a.faults
@@ -28,15 +33,16 @@ pub record FilesWell (a b : Seen) : Type 0 where
 abbrev pub SinkWell : Seen → Seen → Type 0
 SinkWell a b = b.sink_faults ≡ a.sink_faults
 
--- where a file is made the output's name holds it, and all other names stand; else all names stand
-abbrev pub HoldsFile : Option (List ℕ) → List ℕ → Option Names → Option Names → Type 0
+-- a file that is made is held by the output's name, and all other names stand; where none is made, all names stand
+abbrev pub HoldsFile : Option (List ℕ) → Option (List ℕ) → Option Names → Option Names → Type 0
+HoldsFile (Some file) (Some output) before now = Wrote before now output file
+HoldsFile (Some file) None before now = now ≡ before
 HoldsFile None output before now = now ≡ before
-HoldsFile (Some file) output before now = Wrote before now output file
 
 -- ---- how a command ends that has made its file and its text
 
 -- both are where they belong
-pub record IsDone (m : Made) (output : List ℕ) (answer : Status) (a b : Seen) : Type 0 where
+pub record IsDone (m : Made) (output : Option (List ℕ)) (answer : Status) (a b : Seen) : Type 0 where
   pub answered : answer ≡ m.status
   pub file : HoldsFile m.file output a.held b.held
   pub text : Gained a.written b.written m.text
@@ -44,18 +50,20 @@ pub record IsDone (m : Made) (output : List ℕ) (answer : Status) (a b : Seen) 
   pub sink : SinkWell a b
 
 -- the file could not be written; nothing is known of its name, all others stand, and nothing was put
-pub record IsUnwritten (m : Made) (output : List ℕ) (answer : Status) (a b : Seen) : Type 0 where
+pub record IsUnwritten (m : Made) (output : Option (List ℕ)) (answer : Status) (a b : Seen) : Type 0 where
   pub file : List ℕ
-  pub to_write : m.file ≡ Some file
+  pub name : List ℕ
+  pub made : m.file ≡ Some file
+  pub named : output ≡ Some name
   pub answered : answer ≡ status.WriteFault
   pub rose : Rose a.faults b.faults
-  pub last : b.last ≡ Write output
-  pub spoiled : Spoiled a.held b.held output
+  pub last : b.last ≡ Write name
+  pub spoiled : Spoiled a.held b.held name
   pub text : b.written ≡ a.written
   pub sink : SinkWell a b
 
 -- the text could not be put; the file is written
-pub record IsUnput (m : Made) (output : List ℕ) (answer : Status) (a b : Seen) : Type 0 where
+pub record IsUnput (m : Made) (output : Option (List ℕ)) (answer : Status) (a b : Seen) : Type 0 where
   pub some : m.text ≢ []
   pub answered : answer ≡ status.WriteFault
   pub rose : Rose a.sink_faults b.sink_faults
@@ -72,7 +80,7 @@ pub record IsEarly (answer : Status) (a b : Seen) : Type 0 where
   pub sink : SinkWell a b
 
 -- memory ran out in the put; the file is written
-pub record IsLate (m : Made) (output : List ℕ) (answer : Status) (a b : Seen) : Type 0 where
+pub record IsLate (m : Made) (output : Option (List ℕ)) (answer : Status) (a b : Seen) : Type 0 where
   pub some : m.text ≢ []
   pub answered : answer ≡ status.OutOfMemory
   pub file : HoldsFile m.file output a.held b.held
@@ -80,34 +88,50 @@ pub record IsLate (m : Made) (output : List ℕ) (answer : Status) (a b : Seen) 
   pub files : FilesWell a b
   pub sink : SinkWell a b
 
-pub data Concludes (m : Made) (output : List ℕ) (answer : Status) (a b : Seen) : Type 0 where
+pub data Concludes (m : Made) (output : Option (List ℕ)) (answer : Status) (a b : Seen) : Type 0 where
   done : IsDone m output answer a b → Concludes m output answer a b
   unwritten : IsUnwritten m output answer a b → Concludes m output answer a b
   unput : IsUnput m output answer a b → Concludes m output answer a b
   unheld : IsEarly answer a b → Concludes m output answer a b
   late : IsLate m output answer a b → Concludes m output answer a b
 
--- ---- what a command does: it reads its input, makes its file and its text of the bytes, and ends
+-- ---- what a command does: it reads its files, makes its file and its text of their bytes, and ends
 
--- the input's bytes, and what is made of them
-pub record HasMade (input : List ℕ) (makes : List ℕ → Made → Type 0) (a : Seen) (m : Made) : Type 0 where
-  pub bytes : List ℕ
-  pub read : ReadOf a.held input bytes
-  pub made : makes bytes m
+-- the bytes of files, one after another
+abbrev pub AreRead : Option Names → List (List ℕ) → List (List ℕ) → Type 0
+AreRead held [] [] = Unit {0}
+AreRead held (name ∷ names) (bytes ∷ files) = ReadOf held name bytes × AreRead held names files
+AreRead held [] (bytes ∷ files) = ⊥
+AreRead held (name ∷ names) [] = ⊥
 
--- the input could not be read; nothing was written or put
-pub record IsUnread (input : List ℕ) (answer : Status) (a b : Seen) : Type 0 where
+-- the bytes of its files, and what is made of them
+pub record HasMade (asked : Asked) (a : Seen) (m : Made) : Type 0 where
+  pub files : List (List ℕ)
+  pub read : AreRead a.held asked.inputs files
+  pub made : MakesBy asked.action asked.inputs files m
+
+-- an input could not be read; nothing was written or put
+pub record IsUnread (inputs : List (List ℕ)) (answer : Status) (a b : Seen) : Type 0 where
   pub answered : answer ≡ status.ReadFault
   pub rose : Rose a.faults b.faults
-  pub last : b.last ≡ Read input
+  pub name : List ℕ
+  pub among : Contains inputs name
+  pub last : b.last ≡ Read name
   pub held : b.held ≡ a.held
   pub text : b.written ≡ a.written
   pub sink : SinkWell a b
 
-pub data Outcome (input output : List ℕ) (makes : List ℕ → Made → Type 0) (answer : Status) (a b : Seen) : Type 0 where
-  unread : IsUnread input answer a b → Outcome input output makes answer a b
-  early : IsEarly answer a b → Outcome input output makes answer a b
-  concluded : (m : Made) → HasMade input makes a m → Concludes m output answer a b → Outcome input output makes answer a b
+pub data Outcome (asked : Asked) (answer : Status) (a b : Seen) : Type 0 where
+  unread : IsUnread asked.inputs answer a b → Outcome asked answer a b
+  early : IsEarly answer a b → Outcome asked answer a b
+  concluded : (m : Made) → HasMade asked a m → Concludes m asked.output answer a b → Outcome asked answer a b
+
+-- what reads of these files, of which the first that failed ended them, did to the count of faults and the last fault
+abbrev pub ReadsCounted : {T : Type 0} → Result T FileFault → List (List ℕ) → ℕ → ℕ → Last → Last → Type 0
+ReadsCounted (Ok value) names before now last last_now = (now ≡ before) × (last_now ≡ last)
+ReadsCounted (Err file.Failed) names before now last last_now =
+    Rose before now × ((name : List ℕ) × Contains names name × (last_now ≡ Read name))
+ReadsCounted (Err file.OutOfMemory) names before now last last_now = (now ≡ before) × (last_now ≡ last)
 
 -- ---- a faulty word
 
@@ -127,18 +151,16 @@ pub record IsFaulty (n : ℕ) (answer : Status) (a b : Seen) : Type 0 where
   pub files : FilesWell a b
   pub put : Puts status.Words (words_line n) answer a.written b.written a.sink_faults b.sink_faults
 
--- ---- by the words: the command, its operands, and what it makes
+-- ---- by the words
 
-abbrev pub OutcomeAfter : Option Verb → List (List ℕ) → Status → Seen → Seen → Type 0
-OutcomeAfter (Some Assemble) words answer a b = Outcome (operand 0 words) (operand 1 words) MakesAssemble answer a b
-OutcomeAfter (Some Link) words answer a b = Outcome (operand 1 words) (operand 0 words) (MakesLink (operand 1 words)) answer a b
-OutcomeAfter (Some Run) words answer a b = Outcome (operand 0 words) [] (MakesRun (operand 0 words) (steps_of words) (mail_of words)) answer a b
-OutcomeAfter None words answer a b = ⊥
-
-abbrev pub OutcomeBy : Option ℕ → List (List ℕ) → Status → Seen → Seen → Type 0
-OutcomeBy (Some n) words answer a b = IsFaulty n answer a b
-OutcomeBy None [] answer a b = ⊥
-OutcomeBy None (word ∷ words) answer a b = OutcomeAfter (verb_named word) words answer a b
+abbrev pub OutcomeBy : Result Asked ℕ → Status → Seen → Seen → Type 0
+OutcomeBy (Ok asked) answer a b = Outcome asked answer a b
+OutcomeBy (Err number) answer a b = IsFaulty number answer a b
 
 abbrev pub OutcomeOf : List (List ℕ) → Status → Seen → Seen → Type 0
-OutcomeOf words answer a b = OutcomeBy (word_fault words) words answer a b
+OutcomeOf words answer a b = OutcomeBy (asked words) answer a b
+
+-- what the program ends with: the number of the status, or that of want of memory where there was none for the words
+abbrev pub EndsWith : Option (List (List ℕ)) → Status → ℕ → Seen → Seen → Type 0
+EndsWith None answer code a b = (answer ≡ status.OutOfMemory) × (code ≡ number_of answer) × (b ≡ a)
+EndsWith (Some words) answer code a b = OutcomeOf words answer a b × (code ≡ number_of answer)

@@ -1,31 +1,24 @@
 //! What `link` makes of an object's bytes.
 
-ghost use Rattle.std.specs.Prelude.{◌≡◌, ◌++◌, ◌≤◌, ◌∷◌, [], ℕ, codes, Some, None, IfOk};
-ghost use Rattle.spu_tool.specs.Makes.{HasRoot, MakesLink, made, refused, summary, summary_of, default_limit};
+ghost use Rattle.std.specs.Prelude.{◌≡◌, ◌≤◌, ◌∷◌, [], codes, Some, IfOk};
+ghost use Rattle.spu_tool.specs.Makes.{HasRoot, MakesLink, made, summary, summary_of};
 ghost use Rattle.spu_tool.specs.declared.status.Status.TheVariants as Status;
 
-use crate::file_faults::elf_refusal;
+use crate::fault_lines::{elf_refusal, form_refusal};
 use crate::made::Made;
 use crate::status::Status;
-use crate::texts::{count_line, refusal, share_line};
+use crate::texts::{count_line, share_line};
 use spu_elf::{ElfFault, Object, read_object};
 use spu_image::{LinkFault, LinkOptions, Linked, link};
+use spu_word::limits::{DATA_START, STACK_TOP};
 use spu_word::{Bytes, OutOfMemory, Seq};
 use std::alloc::Global;
 
-/// The stack's size, if the words don't say it.
-const DEFAULT_LIMIT: u32 = 16_384;
-
-/// What is made of an object that isn't of the first form.
-fn not_built(alloc: Global, name: &str) -> Result<Made, OutOfMemory>
-    ensures { IfOk result (λ m. m ≡ refused (codes "L0 NotBuilt " ++ name.now)) }
-{
-    let line = format!(in alloc; "L0 NotBuilt {name}\n")?;
-    refusal(alloc, line.as_str())
-}
+/// The stack's size, where the words don't say.
+pub const DEFAULT_LIMIT: u32 = 16_384;
 
 fn default_options(alloc: Global) -> Result<LinkOptions, OutOfMemory>
-    ensures { IfOk result (λ o. o ≡ record { entry = codes "main"; limit = default_limit }) }
+    ensures { IfOk result (λ o. o ≡ record { entry = codes "main"; limit = DEFAULT_LIMIT }) }
 {
     Ok(LinkOptions {
         entry: Seq::copied(alloc, b"main")?,
@@ -49,20 +42,20 @@ fn summary(
     limit: u32,
     top: usize,
 ) -> Result<Bytes, OutOfMemory>
-    requires { limit ≤ 262112 }
+    requires { limit ≤ STACK_TOP }
     ensures { IfOk result (λ t. t ≡ summary_of functions need limit top) }
 {
     let mut text = Seq::copied(alloc, b"image flat\n")?;
     text.extend(count_line(alloc, "functions", functions as u64)?.as_bytes())?;
     text.extend(share_line(alloc, "stack", need as u64, u64::from(limit))?.as_bytes())?;
-    text.extend(share_line(alloc, "top", top as u64, u64::from(262_112 - limit))?.as_bytes())?;
+    text.extend(share_line(alloc, "top", top as u64, u64::from(STACK_TOP - limit))?.as_bytes())?;
     Ok(text)
 }
 
 /// The summary of what was linked.
 fn linked_summary(alloc: Global, linked: &Linked) -> Result<Bytes, OutOfMemory>
     requires { HasRoot linked.now }
-    ensures { IfOk result (λ t. t ≡ summary linked.now.prog default_limit 0) }
+    ensures { IfOk result (λ t. t ≡ summary linked.now.prog DEFAULT_LIMIT 0) }
 {
     match linked.exec.segments.as_slice() {
         [root, ..] => summary(
@@ -70,7 +63,7 @@ fn linked_summary(alloc: Global, linked: &Linked) -> Result<Bytes, OutOfMemory>
             linked.prog.functions.len() - 1,
             0,
             DEFAULT_LIMIT,
-            128 + root.bytes.len(),
+            DATA_START as usize + root.bytes.len(),
         ),
         [] => unreachable!(),
     }
@@ -79,7 +72,7 @@ fn linked_summary(alloc: Global, linked: &Linked) -> Result<Bytes, OutOfMemory>
 /// What is made of an object that is linked.
 fn linked_made(alloc: Global, linked: Linked) -> Result<Made, OutOfMemory>
     requires { HasRoot linked }
-    ensures { IfOk result (λ m. m ≡ made Status.Ok (Some linked.file) (summary linked.prog default_limit 0)) }
+    ensures { IfOk result (λ m. m ≡ made Status.Ok (Some linked.file) (summary linked.prog DEFAULT_LIMIT 0)) }
 {
     let text = linked_summary(alloc, &linked)?;
     let Linked { file, .. } = linked;
@@ -103,7 +96,7 @@ pub fn link_command(alloc: Global, name: &str, bytes: &[u8]) -> Result<Made, Out
     let options = default_options(alloc)?;
     match link(alloc, &objects, &options) {
         Ok(linked) => linked_made(alloc, linked),
-        Err(LinkFault::NotBuilt(_)) => not_built(alloc, name),
+        Err(LinkFault::NotBuilt(_)) => form_refusal(alloc, name),
         Err(LinkFault::OutOfMemory) => Err(OutOfMemory),
     }
 }

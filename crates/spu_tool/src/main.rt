@@ -1,33 +1,35 @@
 //! The tool: texts are assembled, objects are linked, and executables are run.
 #![tactic(auto)]
 
+mod arguments;
 mod assemble_command;
+mod command;
 mod concluding;
-mod file_faults;
+mod fault_lines;
 mod link_command;
 mod lists;
 mod made;
+mod making;
 mod numbers;
+mod options;
+mod reading;
+mod request;
 mod run_command;
 mod status;
+mod telling;
 #[cfg(test)]
 mod tests;
 mod texts;
 mod tool;
-mod words;
 
-ghost use Rattle.std.specs.Prelude.{◌≡◌};
-ghost use Rattle.std.specs.Process.{exit_status};
-ghost use Rattle.spu_tool.specs.Statuses.{number_of};
-
-use crate::status::{Status, status_number};
-use crate::tool::tool;
+use crate::telling::tell;
+use crate::tool::call;
 use spu_io::{DiskFiles, StdSink};
-use std::alloc::Global;
 use std::process::ExitCode;
 use std::{env, io};
 
-/// The words without the program's name. Words that aren't all UTF-8 are no words at all.
+/// The words without the program's name; None where there is no memory for them. Words that aren't all UTF-8 are no words
+/// at all.
 fn words_of(rt: &HostRuntime) -> Option<Vec<String>> {
     let alloc = rt.alloc();
     match env::args(rt) {
@@ -45,22 +47,12 @@ fn words_of(rt: &HostRuntime) -> Option<Vec<String>> {
     }
 }
 
-/// What the program ends with.
-fn exit_code(status: Status) -> ExitCode
-    ensures { exit_status result ≡ number_of status }
-{
-    ExitCode::from(status_number(status))
-}
-
 fn main(rt: HostRuntime) -> ExitCode {
-    let status = match words_of(&rt) {
-        Some(words) => {
-            let alloc = rt.alloc();
-            let mut files = DiskFiles::new(&rt, alloc);
-            let mut out = StdSink::new(&rt);
-            tool(alloc, &words, &mut files, &mut out)
-        }
-        None => Status::OutOfMemory,
-    };
-    exit_code(status)
+    let words = words_of(&rt);
+    let mut files = DiskFiles::new(&rt, rt.alloc());
+    let mut out = StdSink::new(&rt);
+    let (status, code) = call(rt.alloc(), &words, &mut files, &mut out);
+    // Where standard error takes nothing, the code tells.
+    let _ = tell(&rt, rt.alloc(), status, &words, files.last_fault());
+    code
 }

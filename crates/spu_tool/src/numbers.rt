@@ -1,7 +1,13 @@
 //! Numbers on a command line.
 
 ghost use Rattle.std.specs.Prelude.{◌≡◌, ◌≤◌, drop};
-ghost use Rattle.spu_tool.specs.Numbers.{digits_number, with_digit, bounded, number_within};
+ghost use Rattle.spu_tool.specs.Numbers.{digits_number, with_digit, bounded, number_within, word_of};
+
+/// The greatest number of 32 bits: the most steps of a run, and the greatest word of mail.
+pub const MAX_WORD: u64 = 0xffff_ffff;
+
+/// The greatest effective address.
+pub const MAX_ADDRESS: u64 = 0xffff_ffff_ffff_ffff;
 
 // The number that digits write, if it is at most the bound.
 #[tactic(auto, using(crate::proofs::Growing::number_is, crate::proofs::Growing::number_none))]
@@ -41,5 +47,15 @@ pub fn number_within(text: &[u8], most: u64) -> Option<u64>
     match text {
         [b'0', b'x', digits @ ..] => digits_within(16, digits, most),
         _ => digits_within(10, text, most),
+    }
+}
+
+/// The number of 32 bits that a text writes.
+pub fn word_of(text: &[u8]) -> Option<u32>
+    ensures { result ≡ word_of text.now }
+{
+    match number_within(text, MAX_WORD) {
+        Some(word) => Some(word as u32),
+        None => None,
     }
 }

@@ -4,15 +4,17 @@ ghost use Rattle.std.specs.Prelude.{◌≡◌, ◌⊎◌, ◌++◌, ◌∷◌, �
 ghost use Rattle.std.specs.List.{flat_map};
 ghost use Rattle.spu_ls.specs.Ends.{end_of};
 ghost use Rattle.spu_ls.specs.View.{state_of};
-ghost use Rattle.std.specs.Fmt.{decimal};
 ghost use Rattle.spu_elf.specs.Validity.{IsValidExec};
 ghost use Rattle.spu_elf.specs.Spelling.{spell_exec};
-ghost use Rattle.spu_tool.specs.Makes.{MakesRun, Runs, LoadsNot, IsOfSegment, NamesSegment, count_line, made, refused, hex_digit, hexadecimal, end_line, out_line, status_of, run_text};
+ghost use Rattle.spu_word.specs.declared.limits.TheConstants.{MAX_MAIL};
+ghost use Rattle.spu_tool.specs.Options.{AreSound};
+ghost use Rattle.spu_tool.specs.Makes.{MakesRun, Runs, LoadsNot, IsOfSegment, NamesSegment, count_line, made, hex_digit, hexadecimal, end_line, out_line, status_of, run_text};
 
-use crate::file_faults::elf_refusal;
+use crate::fault_lines::{elf_refusal, segment_refusal};
 use crate::made::Made;
+use crate::options::RunOptions;
 use crate::status::Status;
-use crate::texts::{count_line, refusal};
+use crate::texts::count_line;
 use spu_elf::{ElfFault, Exec, read_exec};
 use spu_ls::{Machine, RunEnd};
 use spu_word::{Bytes, Inputs, LoadFault, OutOfMemory, Seq};
@@ -20,14 +22,6 @@ use std::alloc::Global;
 
 /// The effective address of the executable's file, if the words don't say it.
 const DEFAULT_IMAGE: u64 = 0x4000_0000;
-
-/// What is made of an executable whose segment of this number doesn't lie in the local store.
-fn segment_refusal(alloc: Global, number: u32) -> Result<Made, OutOfMemory>
-    ensures { IfOk result (λ m. m ≡ refused (codes "M4 SegmentRange " ++ decimal number)) }
-{
-    let line = format!(in alloc; "M4 SegmentRange {number}\n")?;
-    refusal(alloc, line.as_str())
-}
 
 fn hex_digit(n: u32) -> u8
     requires { n < 16 }
@@ -124,7 +118,7 @@ fn ran(alloc: Global, machine: &Machine, end: RunEnd) -> Result<Made, OutOfMemor
 
 /// The inputs of a run with this mail, and no areas.
 fn inputs(alloc: Global, mail: Seq<u32>) -> Inputs
-    ensures { result ≡ record { image_ea = 1073741824; mail = mail; areas = [] } }
+    ensures { result ≡ record { image_ea = DEFAULT_IMAGE; mail = mail; areas = [] } }
 {
     Inputs {
         image_ea: DEFAULT_IMAGE,
@@ -147,42 +141,42 @@ fn load_refusal(alloc: Global, fault: &LoadFault) -> Result<Made, OutOfMemory>
     }
 }
 
-/// What is made of an executable of this file: a run of at most so many steps.
+/// What is made of an executable of this file: a run of at most so many steps, with this mail.
 fn exec_run(
     alloc: Global,
     exec: &Exec,
     file: &[u8],
-    budget: u32,
+    steps: u32,
     mail: Seq<u32>,
 ) -> Result<Made, OutOfMemory>
     requires valid { IsValidExec exec.now }
     requires file { file.now ≡ spell_exec exec.now }
-    requires mail { length mail ≤ 65536 }
-    ensures { IfOk result (λ m. Runs exec.now budget mail m ⊎ LoadsNot exec.now m) }
+    requires mail { length mail ≤ MAX_MAIL }
+    ensures { IfOk result (λ m. Runs exec.now (record { steps = steps; mail = mail }) m ⊎ LoadsNot exec.now m) }
 {
     let inputs = inputs(alloc, mail);
     match Machine::load(alloc, exec, file, &inputs) {
         Ok(mut machine) => {
-            let end = machine.run(u64::from(budget));
+            let end = machine.run(u64::from(steps));
             ran(alloc, &machine, end)
         }
         Err(fault) => load_refusal(alloc, &fault),
     }
 }
 
-/// What is made of an executable's bytes: a run of at most so many steps, with at most 65,536 words of mail.
+/// What is made of an executable's bytes: what its run with these options shows.
 pub fn run_command(
     alloc: Global,
+    options: RunOptions,
     name: &str,
     bytes: &[u8],
-    budget: u32,
-    mail: Seq<u32>,
 ) -> Result<Made, OutOfMemory>
-    requires { length mail ≤ 65536 }
-    ensures { IfOk result (MakesRun name.now budget mail bytes.now) }
+    requires { AreSound options }
+    ensures { IfOk result (MakesRun options name.now bytes.now) }
 {
+    let RunOptions { steps, mail } = options;
     match read_exec(alloc, bytes) {
-        Ok(exec) => exec_run(alloc, &exec, bytes, budget, mail),
+        Ok(exec) => exec_run(alloc, &exec, bytes, steps, mail),
         Err(ElfFault::Fault { kind, place }) => elf_refusal(alloc, kind, name, place),
         Err(ElfFault::OutOfMemory) => Err(OutOfMemory),
     }

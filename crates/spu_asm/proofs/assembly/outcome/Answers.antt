@@ -6,4 +6,4 @@ use Rattle.spu_asm.proofs.assembly.outcome.Goals as goal
 pub returns : goal.returns
 returns c =
     let taken = subst (λ ts. IsTaken c.args.text.now ts c.in_ok-progress.progress) c.as_slice.ensures c.in_ok-progress.ensures in
-    comes_to _ _ _ _ _ _ c.in_ok-front.ensures taken c.note.ensures c.finish.ensures
+    comes_to _ _ _ _ _ _ c.in_ok-front.ensures.front taken c.note.ensures c.finish.ensures

@@ -1,4 +1,4 @@
-use Rattle.std.proofs.Common.{arith, length, ◌+◌, ◌<◌, ◌≡◌, ◌∷◌, ap, take, drop}
+use Rattle.std.proofs.Common.{arith, length, ◌<◌, ◌≡◌, ◌∷◌, ap, take}
 use Rattle.std.proofs.lemmas.Bool.Decides.{nat_tests}
 use Rattle.spu_text.specs.Texts.{lines_of, line_len}
 use Rattle.spu_text.proofs.LineSteps.{lines_first}

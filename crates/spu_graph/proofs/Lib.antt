@@ -1,0 +1,10 @@
+pub mod Ranks
+pub mod Numbers
+pub mod Firsts
+pub mod Walking
+pub mod Settled
+pub mod Turns
+pub mod Reached
+pub mod Entries
+pub mod Cycles
+pub mod Traces

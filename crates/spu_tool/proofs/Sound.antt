@@ -1,0 +1,120 @@
+-- What the words ask for has its inputs, and sound options.
+use Rattle.std.proofs.Common.{◌≡◌, ℕ, ◌+◌, ◌==◌, ◌≤◌, lit≤, Bool, true, false, List, [], ◌∷◌, ◌++◌, length, map, Option, Some, None, Result, Ok, Err, refl, subst, ap, arith, unwrap_or, option_map}
+use Rattle.std.specs.Prelude.{◌&&◌, nat_lt, nat_le, if◌then◌else◌}
+use Rattle.std.specs.List.{list_all}
+use Rattle.std.proofs.lemmas.Bool.Decides.{nat_tests}
+use Rattle.std.proofs.lemmas.List.{length-map}
+use Rattle.spu_word.specs.declared.limits.TheConstants.{MAX_MAIL}
+use Rattle.spu_tool.specs.declared.options.OptionName.{OptionName}
+use Rattle.spu_tool.specs.declared.options.OptionName.TheVariants.{Steps, Mail}
+use Rattle.spu_tool.specs.declared.options.Options.{Options}
+use Rattle.spu_tool.specs.declared.command.Command.{Command}
+use Rattle.spu_tool.specs.declared.command.Command.TheVariants.{Assemble, Link, Run}
+use Rattle.spu_tool.specs.Numbers.{word_of}
+use Rattle.spu_tool.specs.Lists.{members_of, is_word, words_of, mail_of}
+use Rattle.spu_tool.specs.Options.{AreSound, once, with_steps, with_mail, run_options, option_named, cut_at}
+use Rattle.spu_tool.specs.Arguments.{Given, Asked, giving, with_option, with_named, with_parts, name_and_value, is_option, with_operand, with_word, with_words, nothing_given, of_two, asked_by, or_missing, asked_with, asked_after, asked, most_operands, has_option, command_named}
+use Rattle.spu_tool.specs.Makes.{IsComplete}
+
+abbrev Sound : Given → Type 0
+Sound given = AreSound (run_options given.options)
+
+-- ---- what a result says of what it came from
+
+mapped : {X Y : Type 0} (f : X → Y) (o : Option X) (y : Y) → option_map f o ≡ Some y → (x : X) × (o ≡ Some x) × (f x ≡ y)
+mapped f None y e = absurd (cc)
+mapped f (Some x) y e = (x, refl, (cc))
+
+once_is : {X Y : Type 0} (before : Option X) (value : Option Y) (y : Y) → once before value ≡ Some y → value ≡ Some y
+once_is None value y e = e
+once_is (Some x) value y e = absurd (cc)
+
+passed : {X : Type 0} (b : Bool) (o : Option X) (x : X) → (if b then o else None) ≡ Some x → o ≡ Some x
+passed true o x e = e
+passed false o x e = absurd (cc)
+
+-- ---- the options of one word
+
+mail_few : (list mail : List ℕ) → mail_of list ≡ Some mail → length mail ≤ MAX_MAIL
+mail_few list mail e = step (nat_le (length (members_of list)) MAX_MAIL && list_all is_word (members_of list)) refl e
+  where
+    step : (b : Bool) → (nat_le (length (members_of list)) MAX_MAIL && list_all is_word (members_of list)) ≡ b → (if b then Some (words_of (members_of list)) else None) ≡ Some mail → length mail ≤ MAX_MAIL
+    step true all is =
+        let same : words_of (members_of list) ≡ mail = cc in
+        let size : length (words_of (members_of list)) ≡ length (members_of list) = length-map (members_of list) _ in
+        let few : length (members_of list) ≤ MAX_MAIL = grind (arith, nat_tests, all) in
+        subst (λ (m : List ℕ). length m ≤ MAX_MAIL) same (omega (arith, size, few))
+    step false all is = absurd (cc)
+
+option_sound : (given : Given) (name : OptionName) (value : List ℕ) (g : Given) → with_option given name value ≡ Some g → Sound given → Sound g
+option_sound given Steps value g e h =
+    let o = mapped (λ (x : Options). record given { options = x }) (with_steps given.options value) g e in
+    let n = mapped (λ (k : ℕ). record given.options { steps = Some k }) (once given.options.steps (word_of value)) o.0 o.1 in
+    subst Sound o.2 (subst (λ (x : Options). AreSound (run_options x)) n.2 (record { mail = h.mail }))
+option_sound given Mail value g e h =
+    let o = mapped (λ (x : Options). record given { options = x }) (with_mail given.options value) g e in
+    let m = mapped (λ (ws : List ℕ). record given.options { mail = Some ws }) (once given.options.mail (mail_of value)) o.0 o.1 in
+    subst Sound o.2 (subst (λ (x : Options). AreSound (run_options x)) m.2 (record { mail = mail_few value m.0 (once_is given.options.mail (mail_of value) m.0 m.1) }))
+
+named_sound : (command : Command) (given : Given) (name : Option OptionName) (value : List ℕ) (g : Given) → with_named command given name value ≡ Some g → Sound given → Sound g
+named_sound command given None value g e h = absurd (cc)
+named_sound command given (Some name) value g e h = option_sound given name value g (passed (has_option command name) (with_option given name value) g e) h
+
+operand_sound : (command : Command) (given : Given) (word : List ℕ) (g : Given) → with_operand command given word ≡ Some g → Sound given → Sound g
+operand_sound command given word g e h = step (nat_lt (length given.operands) (most_operands command)) e
+  where
+    step : (b : Bool) → (if b then Some (record given { operands = given.operands ++ word ∷ [] }) else None) ≡ Some g → Sound g
+    step true is = let same : record given { operands = given.operands ++ word ∷ [] } ≡ g = cc in subst Sound same (record { mail = h.mail })
+    step false is = absurd (cc)
+
+word_sound : (command : Command) (given : Given) (word : List ℕ) (g : Given) → with_word command given word ≡ Some g → Sound given → Sound g
+word_sound command given word g e h = step (length word == 0) (is_option word) e
+  where
+    step : (a b : Bool) → (if a then None else if b then with_parts command given (name_and_value word (cut_at 61 word)) else with_operand command given word) ≡ Some g → Sound g
+    step true b is = absurd (cc)
+    step false true is = let parts = name_and_value word (cut_at 61 word) in named_sound command given (option_named parts.0) parts.1 g is h
+    step false false is = operand_sound command given word g is h
+
+-- ---- all words
+
+words_sound : (command : Command) (given : Given) (number : ℕ) (words : List (List ℕ)) (g : Given) → with_words command given number words ≡ Ok g → Sound given → Sound g
+words_sound command given number [] g e h = let same : given ≡ g = cc in subst Sound same h
+words_sound command given number (word ∷ words) g e h = step (with_word command given word) refl e (λ (more : Given). words_sound command more (number + 1) words g)
+  where
+    step : (o : Option Given) → with_word command given word ≡ o → (elim o as (λ _. Result Given ℕ) [ None ↦ Err number | Some more ↦ with_words command more (number + 1) words ]) ≡ Ok g
+        → ((more : Given) → with_words command more (number + 1) words ≡ Ok g → Sound more → Sound g) → Sound g
+    step None is e' rest = absurd (cc)
+    step (Some more) is e' rest = rest more e' (word_sound command given word more is h)
+
+two_is : (first second : Option (List ℕ)) (f : List ℕ → List ℕ → Asked) (r : Asked) → of_two first second f ≡ Some r → (a : List ℕ) × (b : List ℕ) × (f a b ≡ r)
+two_is None second f r e = absurd (cc)
+two_is (Some a) None f r e = absurd (cc)
+two_is (Some a) (Some b) f r e = (a, b, (cc))
+
+abbrev Complete : Asked → Type 0
+Complete r = IsComplete r.action (length r.inputs)
+
+one : (name : List ℕ) → 1 ≤ length (name ∷ [])
+one name = lit≤ tt
+
+by_command : (command : Command) (given : Given) (r : Asked) → Sound given → asked_by command given ≡ Some r → Complete r
+by_command Assemble given r h e = let t = two_is _ _ _ r e in subst Complete t.2 (one t.0)
+by_command Link given r h e = let t = two_is _ _ _ r e in subst Complete t.2 (one t.1)
+by_command Run given r h e = let t = mapped _ _ r e in subst Complete t.2 (one t.0, h)
+
+asked_is : (o : Option Asked) (n : ℕ) (r : Asked) → or_missing o n ≡ Ok r → o ≡ Some r
+asked_is None n r e = absurd (cc)
+asked_is (Some a) n r e = let same : a ≡ r = cc in ap Some same
+
+given_complete : (command : Command) (words : List (List ℕ)) (x : Result Given ℕ) (r : Asked) → with_words command nothing_given 2 words ≡ x → asked_with command (length words + 2) x ≡ Ok r → Complete r
+given_complete command words (Err n) r is e = absurd (cc)
+given_complete command words (Ok given) r is e =
+    by_command command given r (words_sound command nothing_given 2 words given is (record { mail = lit≤ tt })) (asked_is (asked_by command given) (length words + 2) r e)
+
+after_complete : (command : Option Command) (words : List (List ℕ)) (r : Asked) → asked_after command words ≡ Ok r → Complete r
+after_complete None words r e = absurd (cc)
+after_complete (Some command) words r e = given_complete command words (with_words command nothing_given 2 words) r refl e
+
+pub complete : (words : List (List ℕ)) (r : Asked) → asked words ≡ Ok r → Complete r
+complete [] r e = absurd (cc)
+complete (word ∷ words) r e = after_complete (command_named word) words r e

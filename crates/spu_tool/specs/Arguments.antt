@@ -1,0 +1,167 @@
+-- The words of a command line: first a command, and then its operands and options in any order. They are read from left to
+-- right, each by those before it; the fault is at the first that is faulty, counted from 1, or behind the last where words are
+-- missing.
+use Rattle.std.specs.Prelude.{◌≡◌, ℕ, ◌+◌, ◌==◌, Bool, true, false, List, [], ◌∷◌, ◌++◌, length, drop, codes, take, nat_lt, if◌then◌else◌, Option, Some, None, Result, Ok, Err, slice_get, option_map, map}
+use Rattle.std.specs.Str.{bytes_eq}
+use Rattle.std.specs.Borrow.{Bor}
+use Rattle.spu_io.specs.NameTable.{pointed_to}
+use Rattle.spu_tool.specs.declared.command.Command.{Command}
+use Rattle.spu_tool.specs.declared.command.Command.TheVariants.{Assemble, Link, Run}
+use Rattle.spu_tool.specs.declared.options.OptionName.{OptionName}
+use Rattle.spu_tool.specs.declared.options.OptionName.TheVariants.{Steps, Mail}
+use Rattle.spu_tool.specs.declared.options.Options.{Options}
+use Rattle.spu_tool.specs.declared.options.RunOptions.{RunOptions}
+use Rattle.spu_tool.specs.declared.arguments.ParseFault.{ParseFault}
+use Rattle.spu_tool.specs.declared.arguments.ParseFault.TheVariants as faults
+use Rattle.spu_tool.specs.declared.request.Request.{Request}
+use Rattle.spu_tool.specs.declared.request.Action.{Action}
+use Rattle.spu_tool.specs.declared.request.Action.TheVariants as action
+use Rattle.spu_tool.specs.Options.{cut_at, option_named, no_options, with_steps, with_mail, run_options}
+
+-- ---- the commands
+
+abbrev pub command_named : List ℕ → Option Command
+command_named word =
+    if bytes_eq word (codes "asm") then Some Assemble else
+    if bytes_eq word (codes "link") then Some Link else
+    if bytes_eq word (codes "run") then Some Run else
+    None
+
+-- how many operands each has at most
+abbrev pub most_operands : Command → ℕ
+most_operands Assemble = 2
+most_operands Link = 2
+most_operands Run = 1
+
+-- which options each has
+abbrev pub has_option : Command → OptionName → Bool
+has_option Assemble name = false
+has_option Link name = false
+has_option Run Steps = true
+has_option Run Mail = true
+
+-- ---- the words after a command
+
+-- those that were read: the operands and the options
+pub record Given : Type 0 where
+  pub operands : List (List ℕ)
+  pub options : Options
+
+abbrev pub nothing_given : Given
+nothing_given = record { operands = []; options = no_options }
+
+abbrev pub giving : Given → Option Options → Option Given
+giving given options = option_map (λ o. record given { options = o }) options
+
+-- an option with its value, one line each
+abbrev pub with_option : Given → OptionName → List ℕ → Option Given
+with_option given Steps value = giving given (with_steps given.options value)
+with_option given Mail value = giving given (with_mail given.options value)
+
+-- an option is one that the command has
+abbrev pub with_named : Command → Given → Option OptionName → List ℕ → Option Given
+with_named command given None value = None
+with_named command given (Some name) value = if has_option command name then with_option given name value else None
+
+-- it begins with `--`; its name is the part before the first `=`, or all of it, and its value the part after
+abbrev pub is_option : List ℕ → Bool
+is_option word = bytes_eq (take 2 word) (codes "--")
+
+abbrev pub name_and_value : List ℕ → Option (List ℕ × List ℕ) → List ℕ × List ℕ
+name_and_value word None = (word, [])
+name_and_value word (Some parts) = parts
+
+abbrev pub parts_in : List ℕ → List ℕ × List ℕ
+parts_in word = name_and_value word (cut_at 61 word)
+
+abbrev pub with_parts : Command → Given → List ℕ × List ℕ → Option Given
+with_parts command given parts = with_named command given (option_named parts.0) parts.1
+
+abbrev pub with_operand : Command → Given → List ℕ → Option Given
+with_operand command given word =
+    if nat_lt (length given.operands) (most_operands command)
+    then Some (record given { operands = given.operands ++ word ∷ [] }) else None
+
+-- one word more, which is not empty; None where it is faulty
+abbrev pub with_word : Command → Given → List ℕ → Option Given
+with_word command given word =
+    if length word == 0 then None else
+    if is_option word then with_parts command given (parts_in word) else
+    with_operand command given word
+
+-- all words, of which the first has this number; or the number of the first that is faulty
+abbrev pub with_words : Command → Given → ℕ → List (List ℕ) → Result Given ℕ
+with_words command given number [] = Ok given
+with_words command given number (word ∷ words) = elim (with_word command given word) [
+  | None ↦ Err number
+  | Some more ↦ with_words command more (number + 1) words
+]
+
+-- ---- what a command line asks for: the files that are read, in order, the file that is written, and what is made of them
+
+pub record Asked : Type 0 where
+  pub inputs : List (List ℕ)
+  pub output : Option (List ℕ)
+  pub action : Action
+
+abbrev pub texts_of : List (Bor (List ℕ)) → List (List ℕ)
+texts_of names = map (λ n. n.now) names
+
+-- the same, as the code has it
+abbrev pub asked_of : Request → Asked
+asked_of r = record { inputs = texts_of r.inputs.items; output = pointed_to r.output; action = r.action }
+
+-- the first two operands, or the first alone; None where they are missing
+abbrev pub of_two : Option (List ℕ) → Option (List ℕ) → (List ℕ → List ℕ → Asked) → Option Asked
+of_two None second f = None
+of_two (Some first) None f = None
+of_two (Some first) (Some second) f = Some (f first second)
+
+abbrev pub asked_assemble : List (List ℕ) → Option Asked
+asked_assemble operands =
+    of_two (slice_get operands 0) (slice_get operands 1)
+    (λ input output. record { inputs = input ∷ []; output = Some output; action = action.Assemble })
+
+abbrev pub asked_link : List (List ℕ) → Option Asked
+asked_link operands =
+    of_two (slice_get operands 0) (slice_get operands 1)
+    (λ output input. record { inputs = input ∷ []; output = Some output; action = action.Link })
+
+abbrev pub asked_run : List (List ℕ) → RunOptions → Option Asked
+asked_run operands options =
+    option_map (λ input. record { inputs = input ∷ []; output = None; action = action.Run options }) (slice_get operands 0)
+
+abbrev pub asked_by : Command → Given → Option Asked
+asked_by Assemble given = asked_assemble given.operands
+asked_by Link given = asked_link given.operands
+asked_by Run given = asked_run given.operands (run_options given.options)
+
+-- where words are missing the fault is behind the last
+abbrev pub or_missing : Option Asked → ℕ → Result Asked ℕ
+or_missing None number = Err number
+or_missing (Some asked) number = Ok asked
+
+abbrev pub asked_with : Command → ℕ → Result Given ℕ → Result Asked ℕ
+asked_with command behind (Err number) = Err number
+asked_with command behind (Ok given) = or_missing (asked_by command given) behind
+
+-- the words after a command, of which the first has the number 2
+abbrev pub read_after : Command → List (List ℕ) → Result Given ℕ
+read_after command words = with_words command nothing_given 2 words
+
+abbrev pub asked_from : Command → List (List ℕ) → Result Asked ℕ
+asked_from command words = asked_with command (length words + 2) (read_after command words)
+
+abbrev pub asked_after : Option Command → List (List ℕ) → Result Asked ℕ
+asked_after None words = Err 1
+asked_after (Some command) words = asked_from command words
+
+-- what a command line asks for, or the number of its faulty word
+abbrev pub asked : List (List ℕ) → Result Asked ℕ
+asked [] = Err 1
+asked (word ∷ words) = asked_after (command_named word) words
+
+-- a fault of this is named, unless memory ran out
+abbrev pub IsFaultOf : {X : Type 0} → Result X ℕ → ParseFault → Type 0
+IsFaultOf read (faults.Faulty number) = read ≡ Err number
+IsFaultOf read faults.OutOfMemory = Unit {0}

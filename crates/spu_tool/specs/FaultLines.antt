@@ -1,0 +1,48 @@
+-- The lines of faults: the number and the name of each, and where it is.
+use Rattle.std.specs.Prelude.{ℕ, List, ◌++◌, ◌∷◌, [], codes}
+use Rattle.std.specs.Fmt.{decimal}
+use Rattle.spu_asm.specs.declared.faults.AsmKind.{AsmKind}
+use Rattle.spu_asm.specs.declared.faults.AsmKind.TheVariants as asm
+use Rattle.spu_elf.specs.declared.faults.ElfKind.{ElfKind}
+use Rattle.spu_elf.specs.declared.faults.ElfKind.TheVariants as elf
+
+abbrev pub asm_name : AsmKind → List ℕ
+asm_name asm.NotAscii = codes "A1 NotAscii"
+asm_name asm.LineTooLong = codes "A2 LineTooLong"
+asm_name asm.BadNumber = codes "A3 BadNumber"
+asm_name asm.UnknownMnemonic = codes "A4 UnknownMnemonic"
+asm_name asm.BadOperand = codes "A5 BadOperand"
+asm_name asm.Range = codes "A6 Range"
+asm_name asm.DuplicateLabel = codes "A7 DuplicateLabel"
+asm_name asm.BadDirective = codes "A8 BadDirective"
+asm_name asm.SectionTooLarge = codes "A9 SectionTooLarge"
+asm_name asm.TooLarge = codes "A10 TooLarge"
+
+abbrev pub elf_name : ElfKind → List ℕ
+elf_name elf.Truncated = codes "E1 Truncated"
+elf_name elf.NotElf = codes "E2 NotElf"
+elf_name elf.WrongClass = codes "E3 WrongClass"
+elf_name elf.WrongMachine = codes "E4 WrongMachine"
+elf_name elf.WrongKind = codes "E5 WrongKind"
+elf_name elf.BadTable = codes "E6 BadTable"
+elf_name elf.BadName = codes "E7 BadName"
+elf_name elf.BadSymbol = codes "E8 BadSymbol"
+elf_name elf.BadReloc = codes "E9 BadReloc"
+elf_name elf.Compressed = codes "E10 Compressed"
+elf_name elf.TooLarge = codes "E11 TooLarge"
+
+-- a text's fault, at a line
+abbrev pub asm_line : AsmKind → ℕ → List ℕ
+asm_line kind line = asm_name kind ++ codes " " ++ decimal line ++ codes "\n"
+
+-- a file's fault, at an offset; the file is named as the words name it
+abbrev pub elf_line : ElfKind → List ℕ → ℕ → List ℕ
+elf_line kind file offset = elf_name kind ++ codes " " ++ file ++ codes " " ++ decimal offset ++ codes "\n"
+
+-- an object that isn't of the first form
+abbrev pub form_line : List ℕ → List ℕ
+form_line file = codes "L0 NotBuilt " ++ file ++ codes "\n"
+
+-- a segment that doesn't lie in the local store
+abbrev pub segment_line : ℕ → List ℕ
+segment_line number = codes "M4 SegmentRange " ++ decimal number ++ codes "\n"

@@ -1,0 +1,364 @@
+//! The words of a command line.
+
+ghost use Rattle.std.specs.Prelude.{◌≡◌, [], ◌∷◌, map, string_bytes, length, IfOk, IfErr};
+ghost use Rattle.std.specs.Option.{option_map};
+ghost use Rattle.spu_tool.specs.Options.{IsTaken};
+ghost use Rattle.spu_tool.specs.Arguments.{asked, asked_of, asked_from, asked_assemble, asked_link, asked_run, texts_of, read_after, nothing_given, is_option, parts_in, IsFaultOf};
+ghost use Rattle.spu_tool.specs.declared.arguments.ParseFault.TheVariants as faults;
+
+use crate::command::Command;
+use crate::options::{OptionName, Options, RunOptions, cut_at};
+use crate::request::{Action, Request};
+use spu_word::OutOfMemory;
+use std::alloc::Global;
+use std::marker::Model;
+
+/// Why a command line asks for nothing.
+#[derive(Clone, Copy, PartialEq, Eq, Debug)]
+pub enum ParseFault {
+    /// The word of this number, counted from 1, is the first that is faulty, or is missing.
+    Faulty(usize),
+    /// Memory ran out.
+    OutOfMemory,
+}
+
+impl From<OutOfMemory> for ParseFault {
+    ghost from_gives = { λ _ e. e ≡ faults.OutOfMemory };
+
+    fn from(_e: OutOfMemory) -> ParseFault {
+        ParseFault::OutOfMemory
+    }
+}
+
+fn is_option(word: &[u8]) -> bool
+    ensures { result ≡ is_option word.now }
+{
+    word.starts_with(b"--")
+}
+
+// The name of an option, and its value.
+fn name_and_value(word: &str) -> (&str, &str)
+    ensures { (result.0.now, result.1.now) ≡ parts_in word.now }
+{
+    cut_at(word, '=').unwrap_or((word, ""))
+}
+
+// The words after a command, as far as they were read.
+#[derive(Drop)]
+struct Arguments<'a> {
+    operands: Vec<&'a str>,
+    options: Options,
+}
+
+impl<'a> Model for Arguments<'a> {
+    ghost use Rattle.std.specs.Prelude.{map};
+    ghost use Rattle.spu_tool.specs.Arguments.{Given};
+
+    ghost Value = { Given };
+
+    ghost view = { λ a. record { operands = map (λ w. w.now) a.operands.items; options = a.options } };
+}
+
+impl<'a> Arguments<'a> {
+    ghost use Rattle.spu_tool.specs.Arguments.{with_option, with_parts, with_operand, with_word};
+
+    fn new(alloc: Global) -> Arguments<'a>
+        ensures { result ≡ nothing_given }
+    {
+        Arguments {
+            operands: Vec::new(alloc),
+            options: Options::new(),
+        }
+    }
+
+    // Takes an option, and answers whether its value is one and new.
+    fn take_option(
+        &mut self,
+        alloc: Global,
+        name: OptionName,
+        value: &str,
+    ) -> Result<bool, OutOfMemory>
+        ensures { IfOk result (IsTaken (with_option self.old name value.now) self.new) }
+    {
+        match name {
+            OptionName::Steps => Ok(self.options.take_steps(value.as_bytes())),
+            OptionName::Mail => self.options.take_mail(alloc, value.as_bytes()),
+        }
+    }
+
+    // Takes a word that is an option, and answers whether it is right.
+    fn take_named(
+        &mut self,
+        alloc: Global,
+        command: Command,
+        word: &'a str,
+    ) -> Result<bool, OutOfMemory>
+        ensures { IfOk result (IsTaken (with_parts command self.old (parts_in word.now)) self.new) }
+    {
+        let (name, value) = name_and_value(word);
+        match OptionName::named(name.as_bytes()) {
+            Some(name) => {
+                if command.has_option(name) {
+                    self.take_option(alloc, name, value)
+                } else {
+                    Ok(false)
+                }
+            }
+            None => Ok(false),
+        }
+    }
+
+    // Takes an operand, and answers whether there is room for one more.
+    fn take_operand(&mut self, command: Command, word: &'a str) -> Result<bool, OutOfMemory>
+        ensures { IfOk result (IsTaken (with_operand command self.old word.now) self.new) }
+    {
+        if self.operands.len() < command.most_operands() {
+            self.operands.push(word)?;
+            Ok(true)
+        } else {
+            Ok(false)
+        }
+    }
+
+    // Takes one word more, and answers whether it is right.
+    fn take(&mut self, alloc: Global, command: Command, word: &'a str) -> Result<bool, OutOfMemory>
+        ensures { IfOk result (IsTaken (with_word command self.old word.now) self.new) }
+    {
+        if word.is_empty() {
+            Ok(false)
+        } else if is_option(word.as_bytes()) {
+            self.take_named(alloc, command, word)
+        } else {
+            self.take_operand(command, word)
+        }
+    }
+}
+
+// The list of one file.
+fn alone<'a>(alloc: Global, file: &'a str) -> Result<Vec<&'a str>, OutOfMemory>
+    ensures { IfOk result (λ files. texts_of files.items ≡ file.entry.now ∷ []) }
+{
+    let mut files = Vec::new(alloc);
+    files.push(file)?;
+    Ok(files)
+}
+
+// The request of `asm IN OUT`.
+fn assemble_request<'a>(
+    alloc: Global,
+    operands: &[&'a str],
+) -> Result<Option<Request<'a>>, OutOfMemory>
+    ensures { IfOk result (λ r. option_map asked_of r ≡ asked_assemble (texts_of operands.now)) }
+{
+    match (operands.get(0), operands.get(1)) {
+        (Some(input), Some(output)) => Ok(Some(Request {
+            inputs: alone(alloc, input)?,
+            output: Some(output),
+            action: Action::Assemble,
+        })),
+        _ => Ok(None),
+    }
+}
+
+// The request of `link OUT IN`.
+fn link_request<'a>(alloc: Global, operands: &[&'a str]) -> Result<Option<Request<'a>>, OutOfMemory>
+    ensures { IfOk result (λ r. option_map asked_of r ≡ asked_link (texts_of operands.now)) }
+{
+    match (operands.get(0), operands.get(1)) {
+        (Some(output), Some(input)) => Ok(Some(Request {
+            inputs: alone(alloc, input)?,
+            output: Some(output),
+            action: Action::Link,
+        })),
+        _ => Ok(None),
+    }
+}
+
+// The request of `run IN`.
+fn run_request<'a>(
+    alloc: Global,
+    operands: &[&'a str],
+    options: RunOptions,
+) -> Result<Option<Request<'a>>, OutOfMemory>
+    ensures { IfOk result (λ r. option_map asked_of r ≡ asked_run (texts_of operands.now) options) }
+{
+    match operands.get(0) {
+        Some(input) => Ok(Some(Request {
+            inputs: alone(alloc, input)?,
+            output: None,
+            action: Action::Run(options),
+        })),
+        None => Ok(None),
+    }
+}
+
+impl<'a> Arguments<'a> {
+    ghost use Rattle.std.specs.Option.{option_map};
+    ghost use Rattle.spu_tool.specs.Arguments.{asked_of, asked_by};
+
+    // What the words ask for; None where an operand is missing.
+    fn into_request(
+        self,
+        alloc: Global,
+        command: Command,
+    ) -> Result<Option<Request<'a>>, OutOfMemory>
+        ensures { IfOk result (λ r. option_map asked_of r ≡ asked_by command self.entry) }
+    {
+        let Arguments { operands, options } = self;
+        match command {
+            Command::Assemble => assemble_request(alloc, operands.as_slice()),
+            Command::Link => link_request(alloc, operands.as_slice()),
+            Command::Run => run_request(alloc, operands.as_slice(), options.into_run(alloc)),
+        }
+    }
+}
+
+// Reads the words after a command.
+fn arguments_of<'a>(
+    alloc: Global,
+    command: Command,
+    words: &'a [String],
+) -> Result<Arguments<'a>, ParseFault>
+    ensures ok { IfOk result (λ given. read_after command (map string_bytes words.now) ≡ Ok given) }
+    ensures faulty { IfErr result (IsFaultOf (read_after command (map string_bytes words.now))) }
+{
+    let mut arguments = Arguments::new(alloc);
+    for (i, word) in words.iter().enumerate() {
+        if !arguments.take(alloc, command, word.as_str())? {
+            return Err(ParseFault::Faulty(i + 2));
+        }
+    }
+    Ok(arguments)
+}
+
+// What the words after a command ask for.
+fn request_of<'a>(
+    alloc: Global,
+    command: Command,
+    words: &'a [String],
+) -> Result<Request<'a>, ParseFault>
+    ensures ok { IfOk result (λ r. asked_from command (map string_bytes words.now) ≡ Ok (asked_of r)) }
+    ensures faulty { IfErr result (IsFaultOf (asked_from command (map string_bytes words.now))) }
+{
+    let arguments = arguments_of(alloc, command, words)?;
+    match arguments.into_request(alloc, command)? {
+        Some(request) => Ok(request),
+        None => Err(ParseFault::Faulty(words.len() + 2)),
+    }
+}
+
+/// What the words of a command line ask for, without the program's name.
+pub fn parse<'a>(alloc: Global, words: &'a [String]) -> Result<Request<'a>, ParseFault>
+    ensures ok { IfOk result (λ r. asked (map string_bytes words.now) ≡ Ok (asked_of r)) }
+    ensures faulty { IfErr result (IsFaultOf (asked (map string_bytes words.now))) }
+{
+    match words {
+        [] => Err(ParseFault::Faulty(1)),
+        [name, rest @ ..] => match Command::named(name.as_bytes()) {
+            Some(command) => request_of(alloc, command, rest),
+            None => Err(ParseFault::Faulty(1)),
+        },
+    }
+}
+
+#[cfg(test)]
+mod tests {
+    use super::*;
+    use std::test::Fail;
+
+    // The words of a line, between blanks; `_` is the empty word.
+    fn words_of(alloc: Global, line: &str) -> Result<Vec<String>, OutOfMemory> {
+        let mut words = Vec::new(alloc);
+        for word in line.split_ascii_whitespace() {
+            let text = if word == "_" { "" } else { word };
+            words.push(String::from_str(alloc, text)?)?;
+        }
+        Ok(words)
+    }
+
+    #[test]
+    fn faults_are_at_the_first_faulty_word(rt: HostRuntime) -> Result<(), Fail> {
+        let cases = [
+            ("", 1),
+            ("_ a b", 1),
+            ("Link a b", 1),
+            ("--steps=1 run a", 1),
+            ("link", 2),
+            ("asm a", 3),
+            ("asm a _", 3),
+            ("link a b c", 4),
+            ("link a --entry=b c", 3),
+            ("link --steps=1 a b", 2),
+            ("run --steps=5", 3),
+            ("run --steps a", 2),
+            ("run --steps= a", 2),
+            ("run --steps=0x a", 2),
+            ("run --steps=0X1 a", 2),
+            ("run --steps=1f a", 2),
+            ("run --steps=4294967296 a", 2),
+            ("run --steps=99999999999999999999999 a", 2),
+            ("run a --steps=7 --steps=7", 4),
+            ("run a --steps=7 --step=7", 4),
+            ("run a b --steps=7", 3),
+            ("run a --", 3),
+            ("run a --mail", 3),
+            ("run a --mail=", 3),
+            ("run a --mail=,", 3),
+            ("run a --mail=1,,2", 3),
+            ("run a --mail=1,", 3),
+            ("run a --mail=1,2x", 3),
+            ("run a --mail=0X1", 3),
+            ("run a --mail=1,4294967296", 3),
+            ("run a --mail=1 --mail=1", 4),
+            ("link a b --mail=1", 4),
+        ];
+        for (line, fault) in cases {
+            let words = words_of(rt.alloc(), line)?;
+            let read = parse(rt.alloc(), &words).err();
+            assert_eq!(rt; read, Some(ParseFault::Faulty(fault)), "at {line}");
+        }
+        Ok(())
+    }
+
+    // How many steps a run makes at most; None of another action.
+    fn steps_of(action: Action) -> Option<u32> {
+        match action {
+            Action::Run(options) => Some(options.steps),
+            Action::Assemble | Action::Link => None,
+        }
+    }
+
+    #[test]
+    fn steps_are_numbers(rt: HostRuntime) -> Result<(), Fail> {
+        let cases = [
+            ("run a", 1_000_000),
+            ("run a --steps=0", 0),
+            ("run --steps=0020 a", 20),
+            ("run --steps=0xfFfFfFfF a", 0xffff_ffff),
+            (
+                "run a --steps=00000000000000000000004294967295",
+                4_294_967_295,
+            ),
+        ];
+        for (line, expected) in cases {
+            let words = words_of(rt.alloc(), line)?;
+            let request = parse(rt.alloc(), &words).ok().ok_or("faulty")?;
+            let Request { inputs, action, .. } = request;
+            assert_eq!(rt; inputs.as_slice(), ["a"].as_slice());
+            assert_eq!(rt; steps_of(action), Some(expected), "at {line}");
+        }
+        Ok(())
+    }
+
+    #[test]
+    fn operands_are_in_their_order(rt: HostRuntime) -> Result<(), Fail> {
+        let cases = [("link out in", "in", "out"), ("asm -in -", "-in", "-")];
+        for (line, input, output) in cases {
+            let words = words_of(rt.alloc(), line)?;
+            let request = parse(rt.alloc(), &words).ok().ok_or("faulty")?;
+            assert_eq!(rt; request.inputs.as_slice(), [input].as_slice());
+            assert_eq!(rt; request.output, Some(output));
+        }
+        Ok(())
+    }
+}

@@ -1,0 +1,49 @@
+//! What a command makes: one case each.
+
+ghost use Rattle.std.specs.Prelude.{◌≡◌, ◌<◌, length, IfOk};
+ghost use Rattle.spu_tool.specs.Arguments.{texts_of};
+ghost use Rattle.spu_tool.specs.Makes.{MakesBy, IsComplete, first};
+
+use crate::assemble_command::assemble_command;
+use crate::link_command::link_command;
+use crate::made::Made;
+use crate::request::Action;
+use crate::run_command::run_command;
+use spu_word::{Bytes, OutOfMemory};
+use std::alloc::Global;
+
+// The first of some names.
+fn first_name<'a>(names: &[&'a str]) -> &'a str
+    requires { 0 < length names.now }
+    ensures { result.now ≡ first (texts_of names.now) }
+{
+    names[0]
+}
+
+// The bytes of the first of some files.
+fn first_file(files: &[Bytes]) -> &[u8]
+    requires { 0 < length files.now }
+    ensures { result.now ≡ first files.now }
+{
+    files[0].as_slice()
+}
+
+/// What an action makes of its files, of which these are the names and the bytes.
+pub fn make(
+    alloc: Global,
+    action: Action,
+    names: &[&str],
+    files: &[Bytes],
+) -> Result<Made, OutOfMemory>
+    requires complete { IsComplete action (length files.now) }
+    requires named { length names.now ≡ length files.now }
+    ensures { IfOk result (MakesBy action (texts_of names.now) files.now) }
+{
+    match action {
+        Action::Assemble => assemble_command(alloc, first_file(files)),
+        Action::Link => link_command(alloc, first_name(names), first_file(files)),
+        Action::Run(options) => {
+            run_command(alloc, options, first_name(names), first_file(files))
+        }
+    }
+}

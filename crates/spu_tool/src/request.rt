@@ -1,0 +1,22 @@
+//! What a command line asks for.
+
+use crate::options::RunOptions;
+
+/// What a command makes of the bytes of its files.
+#[derive(Drop)]
+pub enum Action {
+    /// The object of a text.
+    Assemble,
+    /// The executable of an object.
+    Link,
+    /// What a run of an executable shows.
+    Run(RunOptions),
+}
+
+/// What a command line asks for: the files that are read, in order, the file that is written, and what is made of them.
+#[derive(Drop)]
+pub struct Request<'a> {
+    pub inputs: Vec<&'a str>,
+    pub output: Option<&'a str>,
+    pub action: Action,
+}
