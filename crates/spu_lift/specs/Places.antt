@@ -29,6 +29,13 @@ taken_in (Some g) = g.taken
 abbrev pub taken_places : Prog → ℕ → List ℕ
 taken_places p f = taken_in (slice_get p.functions f)
 
+-- the registers that hold the link and the stack pointer (SPU ABI, "Register usage")
+abbrev pub link_register : ℕ
+link_register = 0
+
+abbrev pub stack_pointer : ℕ
+stack_pointer = 1
+
 abbrev pub kind_of : SymInst → Kind
 kind_of x = (row_of x.inst.op).kind
 

@@ -21,7 +21,7 @@ use Rattle.spu_lift.specs.declared.program.WordLabel.{WordLabel}
 use Rattle.spu_lift.specs.declared.program.Part.{Part}
 use Rattle.spu_lift.specs.declared.program.Ear.{Ear}
 use Rattle.spu_lift.specs.declared.program.Prog.{Prog}
-use Rattle.spu_lift.specs.Places.{instruction_at, taken_places, kind_of, IsPlace}
+use Rattle.spu_lift.specs.Places.{instruction_at, taken_places, kind_of, link_register, IsPlace}
 use Rattle.spu_lift.specs.StartCode.{start_code}
 
 -- each number is greater than the one before it
@@ -76,13 +76,13 @@ IsOperand p f x (operand.Call g) = (kind_of x ≡ kind.Call) × IsCallee p g
 IsOperand p f x (operand.Jump g) = (kind_of x ≡ kind.Branch) × IsCallee p g × (g ≢ f)
 IsOperand p f x (operand.Branch i) = (kind_of x ≡ kind.Branch) × IsPlace p f i
 
--- an instruction of function f: a call leaves its link in register 0, and a field for which something else stands is 0
+-- an instruction of function f: a call leaves its link in the link register, and a field for which something else stands is 0
 pub record IsInstruction (p : Prog) (f : ℕ) (x : SymInst) : Type 0 where
   pub range : InRange x.inst
   pub stands : IsOperand p f x x.operand
   pub empty : x.operand ≢ operand.Plain → x.inst.imm ≡ pos 0
-  pub call : kind_of x ≡ kind.Call → x.inst.rt ≡ 0
-  pub pointer_call : kind_of x ≡ kind.PointerCall → x.inst.rt ≡ 0
+  pub call : kind_of x ≡ kind.Call → x.inst.rt ≡ link_register
+  pub pointer_call : kind_of x ≡ kind.PointerCall → x.inst.rt ≡ link_register
 
 -- a function lies in its section
 pub record IsFunction (p : Prog) (g : Function) : Type 0 where
