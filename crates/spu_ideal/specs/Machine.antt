@@ -148,6 +148,7 @@ step p s = unless_ended s.ended s (obeys (instruction_at p s.f s.i) p s)
 abbrev pub of_code : lifted.Label → Label
 of_code (label.Fun f) = Fun f
 of_code (label.Place f i) = Place f i
+of_code (label.Link f i) = Link f i
 
 abbrev pub labelled : List WordLabel → ℕ → Symbol → Symbol
 labelled [] j other = other
