@@ -1,0 +1,84 @@
+//! The depths and the frames of a program.
+
+use crate::faults::FrameKind;
+use crate::frame_fault::FrameFault;
+use crate::survey::{FunctionDepths, Finding, survey};
+use spu_lift::Prog;
+use spu_word::Seq;
+use std::alloc::Global;
+
+/// The depth before each place of each function, and the functions' frames.
+#[derive(Drop)]
+pub struct Depths {
+    functions: Seq<FunctionDepths>,
+}
+
+impl Depths {
+    /// The depth before place i of function f, None exactly where no walk reaches it.
+    pub fn at(&self, f: u32, i: u32) -> Option<u32> {
+        match self.functions.get(f as usize) {
+            Some(g) => match g.depths.get(i as usize) {
+                Some(depth) => *depth,
+                None => None,
+            },
+            None => None,
+        }
+    }
+
+    /// The frame of function f: the greatest depth before or after a place that a walk reaches.
+    pub fn frame(&self, f: u32) -> u32 {
+        self.functions.as_slice()[f as usize].frame
+    }
+}
+
+/// A fault of a function, at a place of it.
+#[derive(Clone, Copy)]
+pub struct Flaw {
+    pub kind: FrameKind,
+    pub function: u32,
+    pub place: u32,
+}
+
+/// The worse of the worst flaw of the functions so far and one of the next function.
+fn worse(worst: Option<Flaw>, next: Flaw) -> Flaw {
+    match worst {
+        Some(flaw) => {
+            if next.kind.number() < flaw.kind.number() {
+                next
+            } else {
+                flaw
+            }
+        }
+        None => next,
+    }
+}
+
+/// The depths and the frames of a program; or, exactly where they aren't good, the fault with the least number, at its
+/// first place by function and index. Time and memory are linear in the program's places.
+pub fn frames(alloc: Global, p: &Prog) -> Result<Depths, FrameFault> {
+    let mut functions = Seq::new(alloc);
+    let mut worst = None;
+    for f in 0..p.functions.len() as u32 {
+        match survey(alloc, p, f)? {
+            Finding::Good(depths) => functions.push(depths)?,
+            Finding::Faulty(kind, place) => {
+                worst = Some(worse(
+                    worst,
+                    Flaw {
+                        kind,
+                        function: f,
+                        place: place as u32,
+                    },
+                ));
+            }
+        }
+    }
+    match worst {
+        Some(flaw) => Err(FrameFault::Fault {
+            kind: flaw.kind,
+            function: flaw.function,
+            place: flaw.place,
+        }),
+        None => Ok(Depths { functions }),
+    }
+}
