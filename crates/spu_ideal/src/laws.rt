@@ -11,6 +11,7 @@ ghost use Rattle.spu_ideal.specs.Bytes.{known_word, link_of};
 ghost use Rattle.spu_ideal.specs.State.{Sym};
 ghost use Rattle.spu_ideal.specs.Machine.{calls, run, start, step};
 ghost use Rattle.spu_ideal.specs.States.{IsOf, IsJudged};
+ghost use Rattle.spu_ideal.specs.Promises.{IsHigh};
 ghost use Rattle.spu_ideal.specs.Samples.{nothing};
 ghost use Rattle.spu_ideal.specs.Samples.{sends_five, loses_link, copies_link, spoils_link};
 ghost use Rattle.spu_ideal.specs.declared.ending.IdealEnd.TheVariants as ending;
@@ -63,4 +64,10 @@ pub fn stack_pointer_stays_high()
 /// There are never more open calls than functions.
 pub fn open_calls_are_few()
     ensures { (p : Prog) (frames : ℕ → ℕ) (need : ℕ) → IsJudged p frames need → (s : Sym) → IsOf p s → length s.calls ≤ length p.functions }
+{}
+
+/// In each state of a run with a stack that is long enough, what is loaded and stored lies in the data and in the stack
+/// area, and so do the transfers that wait.
+pub fn run_is_high()
+    ensures { (p : Prog) (frames : ℕ → ℕ) (need : ℕ) → IsJudged p frames need → (limit : ℕ) → need ≤ limit → (inputs : Inputs) (n : ℕ) → IsHigh p frames limit (run p frames limit inputs n) }
 {}
