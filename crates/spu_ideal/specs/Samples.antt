@@ -1,13 +1,13 @@
 -- Four programs on which the symbolic machine is tried: one sends 5 and returns to the start code, which stops; one
 -- copies its link away and back; two lose their links, so that their returns leave the program.
-use Rattle.std.specs.Prelude.{ℕ, List, [], ◌∷◌, codes, ℤ, pos}
+use Rattle.std.specs.Prelude.{ℕ, [], ◌∷◌, codes, pos}
 use Rattle.spu_isa.specs.declared.operation.Op.{Op}
 use Rattle.spu_isa.specs.declared.operation.Op.TheVariants as op
 use Rattle.spu_isa.specs.declared.instruction.Inst.{Inst}
 use Rattle.spu_lift.specs.declared.program.Operand.TheVariants as operand
-use Rattle.spu_lift.specs.declared.program.SymInst.{SymInst}
 use Rattle.spu_lift.specs.declared.program.Prog.{Prog}
 use Rattle.spu_lift.specs.First.{first_program}
+use Rattle.spu_word.specs.declared.load.Inputs.{Inputs}
 use Rattle.spu_lift.specs.StartCode.{of_register, symbolic}
 
 abbrev pub of_channel : Op → ℕ → ℕ → Inst
@@ -31,3 +31,7 @@ copies_link = first_program (codes ".text") 12 (symbolic (or_of_registers 4 0 0)
 -- il $4,1; or $0,$0,$4; bi $0
 abbrev pub spoils_link : Prog
 spoils_link = first_program (codes ".text") 12 (symbolic (of_register op.Il 4 (pos 1)) operand.Plain ∷ symbolic (or_of_registers 0 0 4) operand.Plain ∷ symbolic (of_channel op.Bi 0 0) operand.Plain ∷ [])
+
+-- no mail and no areas
+abbrev pub nothing : Inputs
+nothing = record { image_ea = 0; mail = []; areas = [] }
