@@ -6,6 +6,7 @@ pub mod faults;
 mod frame_fault;
 mod known;
 pub mod laws;
+mod met;
 mod places;
 mod spread;
 mod survey;

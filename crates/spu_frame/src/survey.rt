@@ -1,12 +1,18 @@
 //! The frame of one function, or what is wrong with it.
 
+ghost use Rattle.std.specs.Prelude.{◌≡◌, ◌<◌, ◌↔◌, length, IsTrue, IfOk, IfSome, IfNone};
+ghost use Rattle.spu_lift.specs.WellFormed.{IsWellFormed};
+ghost use Rattle.spu_frame.specs.Faults.{WritesOtherwise, HasTwoDepths, ExitsWithin, LeavesRange};
+ghost use Rattle.spu_frame.specs.Surveys.{code_of, AreKnown, AreMet, AreSingle, AreDepthsIn, IsFinding, IsFirst, IsTwice, IsDeep, IsMetInRange, IsDepthOf, KnowsWrites, IsLevel, IsInRange, deeper};
+
 use crate::faults::FrameKind;
 use crate::known::known_writes;
-use crate::places::{STACK_POINTER, code_of, is_exit, taken_of, writes};
-use crate::spread::{Met, behind, spread};
+use crate::met::{Met, behind};
+use crate::places::{STACK_POINTER, code_of, instruction, is_exit, writes};
+use crate::spread::spread;
 use spu_lift::Prog;
-use spu_word::{OutOfMemory, Seq};
 use spu_word::limits::MAX_STACK_LIMIT;
+use spu_word::{OutOfMemory, Seq};
 use std::alloc::Global;
 
 /// The depths of a function before its places, None where no walk comes, and its frame.
@@ -24,57 +30,101 @@ pub enum Finding {
     Faulty(FrameKind, usize),
 }
 
-/// The first place that writes the stack pointer otherwise than by a known write.
-fn unknown_write(p: &Prog, f: u32, known: &[Option<i32>]) -> Option<usize> {
-    for (i, x) in code_of(p, f).iter().enumerate() {
-        if writes(x, STACK_POINTER) && known[i].is_none() {
+/// The first place of a function other than the start code that writes the stack pointer otherwise than by a known
+/// write.
+fn unknown_write(p: &Prog, f: u32, known: &[Option<i32>]) -> Option<usize>
+    requires f { f < length p.now.functions }
+    requires known { AreKnown p.now f known.now }
+    ensures first { IsFirst (λ i. WritesOtherwise p.now f i) result }
+    ensures within { IfSome result (λ i. i < length (code_of p.now f)) }
+    ensures writes { IfNone result (KnowsWrites p.now f) }
+{
+    if f == 0 {
+        return None;
+    }
+    for i in 0..code_of(p, f).len() {
+        if writes(instruction(p, f, i), STACK_POINTER) && known[i].is_none() {
             return Some(i);
         }
     }
     None
+}
+
+/// Whether walks come with different depths.
+fn is_twice(met: Met) -> bool
+    ensures { IsTrue result ↔ IsTwice met }
+{
+    match met {
+        Met::Twice(_, _) => true,
+        Met::Never | Met::Once(_) => false,
+    }
 }
 
 /// The first place of a function to which walks come with different depths.
-fn clash(p: &Prog, f: u32, met: &[Met]) -> Option<usize> {
+fn clash(p: &Prog, f: u32, met: &[Met]) -> Option<usize>
+    requires f { f < length p.now.functions }
+    requires met { AreMet p.now f met.now }
+    ensures first { IsFirst (λ i. HasTwoDepths p.now f i) result }
+    ensures within { IfSome result (λ i. i < length (code_of p.now f)) }
+    ensures single { IfNone result (AreSingle p.now f met.now) }
+{
     for i in 0..code_of(p, f).len() {
-        if let Met::Twice(..) = met[i] {
+        if is_twice(met[i]) {
             return Some(i);
         }
     }
     None
 }
 
-/// Whether a node has a depth other than 0.
-fn is_deep(met: Met) -> bool {
+/// Whether walks come with a depth other than 0.
+fn is_deep(met: Met) -> bool
+    ensures { IsTrue result ↔ IsDeep met }
+{
     match met {
         Met::Once(d) => d != 0,
-        Met::Never | Met::Twice(..) => false,
+        Met::Never | Met::Twice(_, _) => false,
     }
 }
 
-/// The first exit of a function to which walks come with another depth than 0.
-fn deep_exit(p: &Prog, f: u32, met: &[Met]) -> Option<usize> {
-    let has_taken = !taken_of(p, f).is_empty();
-    for (i, x) in code_of(p, f).iter().enumerate() {
-        if is_deep(met[i]) && is_exit(x, has_taken) {
+/// The first exit of a function to which walks come with a depth other than 0.
+fn deep_exit(p: &Prog, f: u32, met: &[Met]) -> Option<usize>
+    requires f { f < length p.now.functions }
+    requires met { AreMet p.now f met.now }
+    requires single { AreSingle p.now f met.now }
+    ensures first { IsFirst (λ i. ExitsWithin p.now f i) result }
+    ensures within { IfSome result (λ i. i < length (code_of p.now f)) }
+    ensures level { IfNone result (IsLevel p.now f) }
+{
+    for i in 0..code_of(p, f).len() {
+        if is_deep(met[i]) && is_exit(p, f, instruction(p, f, i)) {
             return Some(i);
         }
     }
     None
 }
 
-/// A depth that a stack can have, None where it isn't one.
-fn depth_in_range(met: Met) -> bool {
+/// Whether a depth, if there is one, is one that a stack can have.
+fn is_in_range(met: Met) -> bool
+    ensures { IsTrue result ↔ IsMetInRange met }
+{
     match met {
         Met::Once(d) => 0 <= d && d <= i64::from(MAX_STACK_LIMIT),
-        Met::Never | Met::Twice(..) => true,
+        Met::Never | Met::Twice(_, _) => true,
     }
 }
 
 /// The first place of a function before or after which a depth isn't in range.
-fn out_of_range(p: &Prog, f: u32, known: &[Option<i32>], met: &[Met]) -> Option<usize> {
+fn out_of_range(p: &Prog, f: u32, known: &[Option<i32>], met: &[Met]) -> Option<usize>
+    requires f { f < length p.now.functions }
+    requires known { AreKnown p.now f known.now }
+    requires met { AreMet p.now f met.now }
+    requires single { AreSingle p.now f met.now }
+    ensures first { IsFirst (λ i. LeavesRange p.now f i) result }
+    ensures within { IfSome result (λ i. i < length (code_of p.now f)) }
+    ensures range { IfNone result (IsInRange p.now f) }
+{
     for i in 0..code_of(p, f).len() {
-        if !depth_in_range(met[i]) || !depth_in_range(behind(met[i], known[i])) {
+        if !is_in_range(met[i]) || !is_in_range(behind(met[i], known[i])) {
             return Some(i);
         }
     }
@@ -82,46 +132,64 @@ fn out_of_range(p: &Prog, f: u32, known: &[Option<i32>], met: &[Met]) -> Option<
 }
 
 /// The depth of a node, if it has one.
-fn depth_of(met: Met) -> Option<u32> {
+fn depth_of(met: Met) -> Option<u32>
+    requires { IsMetInRange met }
+    ensures { IsDepthOf met result }
+{
     match met {
         Met::Once(d) => Some(d as u32),
-        Met::Never | Met::Twice(..) => None,
+        Met::Never | Met::Twice(_, _) => None,
     }
 }
 
 /// The greater of a frame and a depth.
-fn deeper(frame: u32, depth: Option<u32>) -> u32 {
+fn deeper(frame: u32, depth: Option<u32>) -> u32
+    ensures { result ≡ deeper frame depth }
+{
     match depth {
         Some(d) => frame.max(d),
         None => frame,
     }
 }
 
-/// The depths of a function whose depths are in range.
+/// The depths and the frame of a function without a fault.
 fn depths(
     alloc: Global,
     p: &Prog,
     f: u32,
     known: &[Option<i32>],
     met: &[Met],
-) -> Result<FunctionDepths, OutOfMemory> {
+) -> Result<FunctionDepths, OutOfMemory>
+    requires formed { IsWellFormed p.now }
+    requires f { f < length p.now.functions }
+    requires known { AreKnown p.now f known.now }
+    requires met { AreMet p.now f met.now }
+    requires single { AreSingle p.now f met.now }
+    requires writes { KnowsWrites p.now f }
+    requires level { IsLevel p.now f }
+    requires range { IsInRange p.now f }
+    ensures { IfOk result (AreDepthsIn p.now f) }
+{
     let mut depths = Seq::new(alloc);
     let mut frame = 0;
     for i in 0..code_of(p, f).len() {
-        let depth = depth_of(met[i]);
-        depths.push(depth)?;
-        frame = deeper(deeper(frame, depth), depth_of(behind(met[i], known[i])));
+        let before = depth_of(met[i]);
+        let after = depth_of(behind(met[i], known[i]));
+        depths.push(before)?;
+        frame = deeper(deeper(frame, before), after);
     }
     Ok(FunctionDepths { depths, frame })
 }
 
 /// The depths and the frame of a function, or its fault with the least number at its first place.
-pub fn survey(alloc: Global, p: &Prog, f: u32) -> Result<Finding, OutOfMemory> {
+pub fn survey(alloc: Global, p: &Prog, f: u32) -> Result<Finding, OutOfMemory>
+    requires formed { IsWellFormed p.now }
+    requires f { f < length p.now.functions }
+    ensures { IfOk result (IsFinding p.now f) }
+{
     let known = known_writes(alloc, p, f)?;
-    if f != 0 {
-        if let Some(place) = unknown_write(p, f, &known) {
-            return Ok(Finding::Faulty(FrameKind::StackWrite, place));
-        }
+    if let Some(place) = unknown_write(p, f, &known) {
+        return Ok(Finding::Faulty(FrameKind::StackWrite, place));
     }
     let met = spread(alloc, p, f, &known)?;
     if let Some(place) = clash(p, f, &met) {
