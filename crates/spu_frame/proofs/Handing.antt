@@ -84,8 +84,8 @@ module _ (node : ℕ) (depth : ℤ) (met : List Met) (waiting : List ℕ) (lt : 
 
   -- the node takes the depth
   module _ (now : Met) (new_waiting : List ℕ) (takes : Covers now depth) (keeps : (n : ℤ) → Covers (met_at met node) n → Covers now n) (source : (n : ℤ) → Keeps now n → Keeps (met_at met node) n ⊎ (depth ≡ n))
-    (twice : (d e : ℤ) → now ≡ Twice d e → d ≡ e → ⊥) (fuller : room_of now < room_of (met_at met node))
-    (on : stands_on new_waiting node ≡ true) (stay : (k : ℕ) → stands_on new_waiting k ≡ false → stands_on waiting k ≡ false) (longer : length new_waiting ≤ length waiting + 1) where
+      (twice : (d e : ℤ) → now ≡ Twice d e → d ≡ e → ⊥) (fuller : room_of now < room_of (met_at met node))
+      (on : stands_on new_waiting node ≡ true) (stay : (k : ℕ) → stands_on new_waiting k ≡ false → stands_on waiting k ≡ false) (longer : length new_waiting ≤ length waiting + 1) where
     fewer : suc (room (slice_set met node now)) ≤ room met
     fewer = let e = room_set met node now lt in omega (arith, e, fuller)
 

@@ -4,4 +4,8 @@ pub mod Formed
 pub mod Marks
 pub mod Handing
 pub mod Spreading
+pub mod Waiting
+pub mod Ways
+pub mod Findings
+pub mod Worst
 pub mod Scans

@@ -45,7 +45,7 @@ marks_start code taken n e = record {
 module _ (code : List SymInst) (n : ℕ) (taken : List ℕ) (m : ℕ) (marks : List Bool) (are : AreMarks code n taken m marks) where
   -- one more mark
   module _ (code' : ℕ) (taken' : ℕ) (t : ℕ) (lt : t < length marks) (mine : IsMarked code code' taken taken' t) (more : (j : ℕ) → IsMarked code n taken m j → IsMarked code code' taken taken' j)
-    (only : (j : ℕ) → IsMarked code code' taken taken' j → IsMarked code n taken m j ⊎ (j ≡ t)) where
+      (only : (j : ℕ) → IsMarked code code' taken taken' j → IsMarked code n taken m j ⊎ (j ≡ t)) where
     pub one_more : AreMarks code code' taken taken' (slice_set marks t true)
     one_more = record {
       count = length-set marks t true ∙ are.count;

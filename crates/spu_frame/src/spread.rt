@@ -10,7 +10,7 @@ ghost use Rattle.spu_frame.specs.Surveys.{code_of, AreKnown, AreMet};
 ghost use Rattle.spu_word.specs.Chains.{lists_of, slot_count, list_count};
 
 use crate::known::repeated;
-use crate::met::{Met, behind};
+use crate::met::{Met, amount, behind, met_at};
 use crate::places::{code_of, goes_on, instruction, is_pointer_branch, taken_of};
 use spu_lift::{Operand, Prog};
 use spu_word::{Chains, OutOfMemory};
@@ -80,7 +80,7 @@ impl Spreading {
         requires { node < length (met_of self.old) }
         ensures { Hands (λ k. k ≡ node) (Once depth) (met_of self.old) (waiting_of self.old) (met_of self.new) (waiting_of self.new) }
     {
-        match self.met[node] {
+        match met_at(&self.met, node) {
             Met::Never => self.set(node, Met::Once(depth)),
             Met::Once(d) => {
                 if d != depth {
@@ -166,7 +166,7 @@ impl Spreading {
         requires small { (n : ℤ) → Keeps (met_at (met_of self.old) i) n → IsWithin n (2 ^ 40) }
         ensures { Hands (IsWay p.now f i) (behind_node known.now (met_of self.old) i) (met_of self.old) (waiting_of self.old) (met_of self.new) (waiting_of self.new) }
     {
-        let met = behind(self.met[i], known[i]);
+        let met = behind(met_at(&self.met, i), amount(known, i));
         self.hand_on(p, f, i, met);
         self.hand_over(p, f, i, met);
         self.hand_around(p, f, i, met);
@@ -179,7 +179,7 @@ impl Spreading {
         requires nodes { length (met_of self.old) ≡ suc (length (code_of p.now f)) }
         ensures { Hands (Contains (taken_places p.now f)) (met_at (met_of self.old) (length (code_of p.now f))) (met_of self.old) (waiting_of self.old) (met_of self.new) (waiting_of self.new) }
     {
-        let met = self.met[code_of(p, f).len()];
+        let met = met_at(&self.met, code_of(p, f).len());
         for j in taken_of(p, f) {
             self.hand_all(*j as usize, met);
         }

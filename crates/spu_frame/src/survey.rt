@@ -7,7 +7,7 @@ ghost use Rattle.spu_frame.specs.Surveys.{code_of, AreKnown, AreMet, AreSingle, 
 
 use crate::faults::FrameKind;
 use crate::known::known_writes;
-use crate::met::{Met, behind};
+use crate::met::{Met, amount, behind, met_at};
 use crate::places::{STACK_POINTER, code_of, instruction, is_exit, writes};
 use crate::spread::spread;
 use spu_lift::Prog;
@@ -43,7 +43,7 @@ fn unknown_write(p: &Prog, f: u32, known: &[Option<i32>]) -> Option<usize>
         return None;
     }
     for i in 0..code_of(p, f).len() {
-        if writes(instruction(p, f, i), STACK_POINTER) && known[i].is_none() {
+        if writes(instruction(p, f, i), STACK_POINTER) && amount(known, i).is_none() {
             return Some(i);
         }
     }
@@ -69,7 +69,7 @@ fn clash(p: &Prog, f: u32, met: &[Met]) -> Option<usize>
     ensures single { IfNone result (AreSingle p.now f met.now) }
 {
     for i in 0..code_of(p, f).len() {
-        if is_twice(met[i]) {
+        if is_twice(met_at(met, i)) {
             return Some(i);
         }
     }
@@ -96,7 +96,7 @@ fn deep_exit(p: &Prog, f: u32, met: &[Met]) -> Option<usize>
     ensures level { IfNone result (IsLevel p.now f) }
 {
     for i in 0..code_of(p, f).len() {
-        if is_deep(met[i]) && is_exit(p, f, instruction(p, f, i)) {
+        if is_deep(met_at(met, i)) && is_exit(p, f, instruction(p, f, i)) {
             return Some(i);
         }
     }
@@ -124,7 +124,7 @@ fn out_of_range(p: &Prog, f: u32, known: &[Option<i32>], met: &[Met]) -> Option<
     ensures range { IfNone result (IsInRange p.now f) }
 {
     for i in 0..code_of(p, f).len() {
-        if !is_in_range(met[i]) || !is_in_range(behind(met[i], known[i])) {
+        if !is_in_range(met_at(met, i)) || !is_in_range(behind(met_at(met, i), amount(known, i))) {
             return Some(i);
         }
     }
@@ -173,8 +173,8 @@ fn depths(
     let mut depths = Seq::new(alloc);
     let mut frame = 0;
     for i in 0..code_of(p, f).len() {
-        let before = depth_of(met[i]);
-        let after = depth_of(behind(met[i], known[i]));
+        let before = depth_of(met_at(met, i));
+        let after = depth_of(behind(met_at(met, i), amount(known, i)));
         depths.push(before)?;
         frame = deeper(deeper(frame, before), after);
     }

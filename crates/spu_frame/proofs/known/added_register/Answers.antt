@@ -11,6 +11,6 @@ same_writer o a b e f = cc
 pub returns-then-adds_register-clause-none : goal.returns-then-adds_register-clause-none
 returns-then-adds_register-clause-none c =
     λ e k l. (
-        let ws = c.args.writers.now.items in
-        let at = slice_get_read ws _ c.args.x.now.inst.rb c.index.result.now refl (c.requires.rb l.is) c.index.ensures in
-        c.loaded.ensures.none e k (subst (λ w. IsLoaded c.args.code.now w c.args.straight k) (same_writer _ _ _ l.wrote at) l.load))
+    let ws = c.args.writers.now.items in
+    let at = slice_get_read ws _ c.args.x.now.inst.rb c.index.result.now refl (c.requires.rb l.is) c.index.ensures in
+    c.loaded.ensures.none e k (subst (λ w. IsLoaded c.args.code.now w c.args.straight k) (same_writer _ _ _ l.wrote at) l.load))

@@ -40,10 +40,10 @@ returns-in-None c =
     record {
       some = by_immediate c.added_register.result (IsLoadAdded c.code_of.result.now c.args.writers.now.items c.args.straight x) (IsKnownWrite c.args.p.now c.args.f c.args.i) c.added_register.ensures.some
           (λ k a. register_known c.args.p.now c.args.f c.args.i c.args.writers.now.items c.args.straight c.requires.scan x c.instruction-x.ensures k
-              (subst (λ cs. IsLoadAdded cs c.args.writers.now.items c.args.straight x k) same a));
+          (subst (λ cs. IsLoadAdded cs c.args.writers.now.items c.args.straight x k) same a));
       none = λ e k w. (
           elim (known_found c.args.p.now c.args.f c.args.i c.args.writers.now.items c.args.straight c.requires.scan x c.instruction-x.ensures
-              (λ is. (let lt = rb_small c.args.p.now c.requires.formed c.args.f c.args.i x c.instruction-x.ensures is.a in let count = c.requires.scan.count in omega (arith, lt, count))) k w) [
+          (λ is. (let lt = rb_small c.args.p.now c.requires.formed c.args.f c.args.i x c.instruction-x.ensures is.a in let count = c.requires.scan.count in omega (arith, lt, count))) k w) [
             | inl a ↦ c.added_immediate-known.ensures.none c.in-None.is k a
             | inr l ↦ c.added_register.ensures.none e k (subst (λ cs. IsLoadAdded cs c.args.writers.now.items c.args.straight x k) (sym same) l)
           ]);
