@@ -1,8 +1,8 @@
 -- One forward pass finds the known writes of a function.
-use Rattle.std.proofs.Common.{◌≡◌, ℕ, zero, suc, ◌+◌, ◌<◌, ◌≤◌, ◌⊎◌, inl, inr, Bool, true, false, List, length, Option, Some, None, IfSome, replicate, refl, sym, ap, ◌∙◌, subst, arith, ℤ}
+use Rattle.std.proofs.Common.{◌≡◌, ℕ, zero, suc, ◌+◌, ◌<◌, ◌≤◌, ◌⊎◌, inl, inr, Bool, true, false, List, [], ◌∷◌, ◌++◌, length, Option, Some, None, IfSome, replicate, refl, sym, ap, ◌∙◌, subst, arith, ℤ}
 use Rattle.std.specs.Prelude.{slice_get, slice_set}
 use Rattle.std.proofs.lemmas.Bool.{cases_lt}
-use Rattle.spu_word.proofs.Places.{nat_equal, get_some, get_set_same, get_set_other}
+use Rattle.spu_word.proofs.Places.{nat_equal, get_some, get_within, get_set_same, get_set_other, get_more_before, get_more_last, length_more}
 use Rattle.spu_word.proofs.Links.{some_number}
 use Rattle.spu_word.specs.declared.limits.TheConstants.{REGISTER_COUNT}
 use Rattle.std.proofs.lemmas.List.{length-set}
@@ -288,3 +288,44 @@ module _ (p : Prog) (formed : IsWellFormed p) (f i : ℕ) (marks : List Bool) (t
       counted : (now : List (Option ℕ)) → Noted now → length now ≡ REGISTER_COUNT
       counted now (inl (w, e)) = ap length e ∙ length-set writers x.inst.rt (Some i) ∙ scan.count
       counted now (inr (w, e)) = ap length e ∙ scan.count
+
+-- ---- what is known of the first n places
+
+pub record AreKnownTo (p : Prog) (f n : ℕ) (known : List (Option ℤ)) : Type 0 where
+  pub count : length known ≡ n
+  pub some : (j : ℕ) (k : ℤ) → slice_get known j ≡ Some (Some k) → IsKnownWrite p f j k
+  pub none : (j : ℕ) (k : ℤ) → slice_get known j ≡ Some None → IsKnownWrite p f j k → ⊥
+
+pub known_starts : (p : Prog) (f : ℕ) (known : List (Option ℤ)) → known ≡ [] → AreKnownTo p f 0 known
+known_starts p f known e = subst (AreKnownTo p f 0) (sym e) (record { count = refl; some = λ j k at. absurd (cc); none = λ j k at. absurd (cc) })
+
+pub known_more : (p : Prog) (f n : ℕ) (known new : List (Option ℤ)) (v : Option ℤ) → AreKnownTo p f n known → new ≡ known ++ v ∷ [] → IfSome v (IsKnownWrite p f n) → (v ≡ None → (k : ℤ) → IsKnownWrite p f n k → ⊥) → AreKnownTo p f (n + 1) new
+known_more p f n known new v are e is not_known = subst (AreKnownTo p f (n + 1)) (sym e) (record {
+  count = (let more = length_more known v in let count = are.count in omega (arith, more, count));
+  some = λ j k at. by_place j k (cases_lt j n) at;
+  none = λ j k at w. by_none j k (cases_lt j n) at w;
+})
+  where
+    before : (j : ℕ) (o : Option ℤ) → j < n → slice_get (known ++ v ∷ []) j ≡ Some o → slice_get known j ≡ Some o
+    before j o lt at = sym (get_more_before known v j (let count = are.count in omega (arith, count, lt))) ∙ at
+
+    last : (j : ℕ) (o : Option ℤ) → n ≤ j → slice_get (known ++ v ∷ []) j ≡ Some o → (j ≡ n) × (v ≡ o)
+    last j o le at =
+        let within = get_within (known ++ v ∷ []) j o at in
+        let more = length_more known v in
+        let count = are.count in
+        let same : j ≡ length known = omega (arith, within, more, count, le) in
+        let there = sym (get_more_last known v j same) ∙ at in
+        (same ∙ count, (cc))
+
+    of_some : (k : ℤ) (o : Option ℤ) → o ≡ Some k → IfSome o (IsKnownWrite p f n) → IsKnownWrite p f n k
+    of_some k None e h = absurd (cc)
+    of_some k (Some m) e h = let same : m ≡ k = cc in subst (IsKnownWrite p f n) same h
+
+    by_place : (j : ℕ) (k : ℤ) → (j < n) ⊎ (n ≤ j) → slice_get (known ++ v ∷ []) j ≡ Some (Some k) → IsKnownWrite p f j k
+    by_place j k (inl lt) at = are.some j k (before j (Some k) lt at)
+    by_place j k (inr le) at = let there = last j (Some k) le at in subst (λ i. IsKnownWrite p f i k) (sym there.0) (of_some k v there.1 is)
+
+    by_none : (j : ℕ) (k : ℤ) → (j < n) ⊎ (n ≤ j) → slice_get (known ++ v ∷ []) j ≡ Some None → IsKnownWrite p f j k → ⊥
+    by_none j k (inl lt) at w = are.none j k (before j None lt at) w
+    by_none j k (inr le) at w = let there = last j None le at in not_known there.1 k (subst (λ i. IsKnownWrite p f i k) there.0 w)

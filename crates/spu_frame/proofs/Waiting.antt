@@ -15,16 +15,13 @@ stays_off xs s k off = by_stand (stands_on xs k) refl
     by_stand false e = e
     by_stand true e = let on = stands_more xs s k e in cc
 
+without_one : (x : ℕ) (xs : List ℕ) (s : ℕ) (b : Bool) → length (without s xs) ≤ length xs → length (if b then without s xs else x ∷ without s xs) ≤ suc (length xs)
+without_one x xs s true rest = omega (arith, rest)
+without_one x xs s false rest = omega (arith, rest)
+
 pub without_le : (xs : List ℕ) (s : ℕ) → length (without s xs) ≤ length xs
 without_le [] s = omega arith
-without_le (x ∷ xs) s = by_test (x == s)
-  where
-    rest : length (without s xs) ≤ length xs
-    rest = without_le xs s
-
-    by_test : (b : Bool) → length (if b then without s xs else x ∷ without s xs) ≤ suc (length xs)
-    by_test true = omega (arith, rest)
-    by_test false = omega (arith, rest)
+without_le (x ∷ xs) s = without_one x xs s (x == s) (without_le xs s)
 
 pub without_first : (xs : List ℕ) (s : ℕ) → Some s ≡ slice_get xs 0 → length (without s xs) < length xs
 without_first [] s e = absurd (cc)
