@@ -78,14 +78,14 @@ module _ (p : Prog) (formed : IsWellFormed p) (f : ℕ) (inside : f < length p.f
       by_known (Some o) at e = known_small p formed f i k (are.some i k (at ∙ ap Some e))
 
   -- what an instruction adds is what is known of it
-  adds_known : (i : ℕ) → i < length (code_of p f) → (c : ℤ) × Adds p f i c × ((m : ℤ) → behind_of (amount i) m ≡ m +ℤ c)
+  pub adds_known : (i : ℕ) → i < length (code_of p f) → (c : ℤ) × Adds p f i c × ((m : ℤ) → behind_of (amount i) m ≡ m +ℤ c)
   adds_known i lt = by_known (known_cases i lt).0 (known_cases i lt).1
     where
       by_known : (o : Option ℤ) → slice_get known i ≡ Some o → (c : ℤ) × Adds p f i c × ((m : ℤ) → behind_of (amount i) m ≡ m +ℤ c)
       by_known (Some a) at = (pos 0 -ℤ a, inl (a, are.some i a at, refl), λ m. ap (λ o. behind_of (amount_in o) m) at ∙ omega (arith, ints))
       by_known None at = (pos 0, inr ((λ k w. are.none i k at w), refl), λ m. ap (λ o. behind_of (amount_in o) m) at ∙ omega (arith, ints))
 
-  behind_adds : (i : ℕ) (c m : ℤ) → i < length (code_of p f) → Adds p f i c → behind_of (amount i) m ≡ m +ℤ c
+  pub behind_adds : (i : ℕ) (c m : ℤ) → i < length (code_of p f) → Adds p f i c → behind_of (amount i) m ≡ m +ℤ c
   behind_adds i c m lt adds = let known = adds_known i lt in known.2 m ∙ ap (λ z. m +ℤ z) (adds_one p f i known.0 c known.1 adds)
 
   -- an indirect branch adds nothing

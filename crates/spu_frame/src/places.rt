@@ -5,6 +5,7 @@ ghost use Rattle.spu_lift.specs.Places.{instruction_at, taken_places, kind_of, W
 ghost use Rattle.spu_frame.specs.Walks.{is_conditional, goes_on, leads_away};
 ghost use Rattle.spu_frame.specs.Frames.{IsReturn, IsExit};
 ghost use Rattle.spu_frame.specs.Surveys.{code_of, IsPointerBranch};
+ghost use Rattle.spu_frame.specs.Targets.{branch_target};
 ghost use Rattle.spu_lift.specs.declared.program.Operand.TheVariants as operand;
 
 use spu_isa::{Kind, Op, info};
@@ -105,6 +106,20 @@ fn is_return(x: &SymInst) -> bool
     ensures { IsTrue result ↔ IsReturn x.now }
 {
     info(x.inst.op).kind == Kind::Indirect && x.inst.ra == LINK_REGISTER
+}
+
+/// The place of its own function that an instruction branches to.
+pub fn target(x: &SymInst) -> Option<u32>
+    ensures { result ≡ branch_target x.now.operand }
+{
+    match x.operand {
+        Operand::Branch(j) => Some(j),
+        Operand::Plain
+        | Operand::Number(_)
+        | Operand::Address(_)
+        | Operand::Call(_)
+        | Operand::Jump(_) => None,
+    }
 }
 
 /// Whether an instruction jumps to another function.

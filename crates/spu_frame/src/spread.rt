@@ -11,8 +11,8 @@ ghost use Rattle.spu_word.specs.Chains.{lists_of, slot_count, list_count};
 
 use crate::known::repeated;
 use crate::met::{Met, amount, behind, met_at};
-use crate::places::{code_of, goes_on, instruction, is_pointer_branch, taken_of};
-use spu_lift::{Operand, Prog};
+use crate::places::{code_of, goes_on, instruction, is_pointer_branch, taken_of, target};
+use spu_lift::Prog;
 use spu_word::{Chains, OutOfMemory};
 use std::alloc::Global;
 
@@ -139,8 +139,9 @@ impl Spreading {
         requires nodes { length (met_of self.old) ≡ suc (length (code_of p.now f)) }
         ensures { Hands (Branches p.now f i) met (met_of self.old) (waiting_of self.old) (met_of self.new) (waiting_of self.new) }
     {
-        if let Operand::Branch(j) = instruction(p, f, i).operand {
-            self.hand_all(j as usize, met);
+        match target(instruction(p, f, i)) {
+            Some(j) => self.hand_all(j as usize, met),
+            None => {}
         }
     }
 
