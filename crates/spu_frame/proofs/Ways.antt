@@ -1,8 +1,10 @@
 -- Depths that are handed along the ways from one node.
-use Rattle.std.proofs.Common.{◌≡◌, ℕ, ◌+◌, ◌<◌, ◌≤◌, ◌⊎◌, inl, inr, true, List, [], ◌∷◌, length, Option, Some, None, refl, sym, ap, ◌∙◌, subst, arith, ℤ}
+use Rattle.std.proofs.Common.{◌≡◌, ℕ, ◌+◌, ◌<◌, ◌≤◌, ◌⊎◌, inl, inr, true, List, [], ◌∷◌, length, get_or, Option, Some, None, refl, sym, ap, ◌∙◌, subst, arith, ℤ}
 use Rattle.std.specs.Prelude.{slice_get}
 use Rattle.std.specs.List.{Contains}
 use Rattle.std.proofs.lemmas.Bool.{cases_lt}
+use Rattle.std.proofs.lemmas.Option.{slice_get-get_or}
+use Rattle.spu_lift.specs.WellFormed.{IsWellFormed}
 use Rattle.spu_word.proofs.Places.{get_past, get_within}
 use Rattle.spu_lift.specs.declared.program.Operand.TheVariants as operand
 use Rattle.spu_lift.specs.declared.program.SymInst.{SymInst}
@@ -12,7 +14,7 @@ use Rattle.spu_frame.specs.declared.met.Met.{Met}
 use Rattle.spu_frame.specs.Walks.{GoesOn, Branches}
 use Rattle.spu_frame.specs.Surveys.{code_of, IsPointerBranch, met_at, met_behind, amount_in, behind_node, Hands, PointsAt, IsTakenFrom, IsWay}
 use Rattle.spu_frame.proofs.Walks.{same_instruction}
-use Rattle.spu_frame.proofs.Formed.{place_within, contains_at, contains_place}
+use Rattle.spu_frame.proofs.Formed.{place_within, taken_within, contains_at, contains_place}
 use Rattle.spu_frame.proofs.Handing.{no_hands, hands_then, hands_to}
 
 -- to no node
@@ -115,3 +117,10 @@ pub among_all : (xs : List ℕ) (n : ℕ) (given : Met) (met new_met : List Met)
 among_all xs n given met new_met waiting new_waiting all h =
     hands_to (IsAmong xs n) (Contains xs) given met new_met waiting new_waiting (λ k a. contains_at xs a.at k a.is)
     (λ k c. (let at = contains_place xs k c in let lt = get_within xs at.0 k at.1 in record { at = at.0; below = omega (arith, lt, all); is = at.1 })) h
+
+-- a taken place, read from the list
+pub taken_at : (p : Prog) (f : ℕ) (taken : List ℕ) (i d : ℕ) → taken ≡ taken_places p f → i < length taken → slice_get (taken_places p f) i ≡ Some (get_or taken i d)
+taken_at p f taken i d e lt = ap (λ (xs : List ℕ). slice_get xs i) (sym e) ∙ slice_get-get_or taken i d lt
+
+pub taken_in : (p : Prog) → IsWellFormed p → (f : ℕ) (taken : List ℕ) (i d : ℕ) → taken ≡ taken_places p f → i < length taken → get_or taken i d < length (code_of p f)
+taken_in p formed f taken i d e lt = taken_within p formed f (get_or taken i d) (contains_at (taken_places p f) i (get_or taken i d) (taken_at p f taken i d e lt))

@@ -12,6 +12,9 @@ less_fits d a (low, high) (lower, higher) = omega (arith, ints, low, high, lower
 less_is : (d a : ℤ) → IsWithin d (2 ^ 40) → IsWithin a (2 ^ 31) → to_z w64 (of_z w64 (to_z w64 (of_z w64 d) -ℤ to_z w64 (of_z w64 a))) ≡ d -ℤ a
 less_is d a (low, high) (lower, higher) = omega (arith, ints, low, high, lower, higher)
 
+twice_is : (a b d e : ℤ) → a ≡ d → b ≡ e → Twice a b ≡ Twice d e
+twice_is a b d e is also = cc
+
 pub overflow_sub-result : goal.overflow_sub-result
 overflow_sub-result c = less_fits c.in-Once.d c.args.added (c.requires.met c.in-Once.d (subst (λ (m : Met). Keeps m c.in-Once.d) (sym c.in-Once.is) refl)) c.requires.added
 
@@ -30,4 +33,4 @@ pub returns-in-Twice : goal.returns-in-Twice
 returns-in-Twice c =
     let w = c.requires.met c.in-Twice.d (subst (λ (m : Met). Keeps m c.in-Twice.d) (sym c.in-Twice.is) (inl refl)) in
     let v = c.requires.met c.in-Twice.e (subst (λ (m : Met). Keeps m c.in-Twice.e) (sym c.in-Twice.is) (inr refl)) in
-    ap (λ z. Twice z _) (less_is c.in-Twice.d c.args.added w c.requires.added) ∙ ap (λ z. Twice _ z) (less_is c.in-Twice.e c.args.added v c.requires.added) ∙ sym (ap (λ (m : Met). less m c.args.added) c.in-Twice.is)
+    twice_is _ _ _ _ (less_is c.in-Twice.d c.args.added w c.requires.added) (less_is c.in-Twice.e c.args.added v c.requires.added) ∙ sym (ap (λ (m : Met). less m c.args.added) c.in-Twice.is)
