@@ -109,7 +109,7 @@ impl Spreading {
     /// Takes the first node that waits.
     fn take(&mut self) -> Option<usize>
         ensures met { met_of self.new ≡ met_of self.old }
-        ensures none { IfNone result (waiting_of self.new ≡ []) }
+        ensures none { IfNone result (waiting_of self.old ≡ []) }
         ensures within { IfSome result (λ node. node < length (met_of self.old)) }
         ensures waiting { IfSome result (λ node. waiting_of self.new ≡ without node (waiting_of self.old)) }
         ensures shorter { IfSome result (λ node. length (waiting_of self.new) < length (waiting_of self.old)) }
