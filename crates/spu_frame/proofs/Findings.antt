@@ -1,9 +1,9 @@
 -- What the depths of a function tell: where walks disagree, which exits are deep, which depths are out of range.
-use Rattle.std.proofs.Common.{◌≡◌, ℕ, zero, suc, ◌+◌, ◌<◌, ◌≤◌, ◌⊎◌, inl, inr, List, length, Option, Some, None, refl, sym, ap, ◌∙◌, subst, arith, ℤ, pos, negsuc}
+use Rattle.std.proofs.Common.{◌≡◌, ℕ, zero, suc, ◌+◌, ◌<◌, ◌≤◌, ◌⊎◌, inl, inr, List, [], ◌∷◌, ◌++◌, length, Option, Some, None, below_more, refl, sym, ap, ◌∙◌, subst, arith, ℤ, pos, negsuc}
 use Rattle.std.specs.Prelude.{slice_get, ◌+ℤ◌, ◌≤ℤ◌, max}
 use Rattle.std.proofs.lemmas.Int.{ints}
 use Rattle.std.proofs.lemmas.Bool.{cases_lt}
-use Rattle.spu_word.proofs.Places.{nat_equal}
+use Rattle.spu_word.proofs.Places.{nat_equal, get_within, get_more_before, get_more_last, length_more}
 use Rattle.spu_lift.specs.declared.program.SymInst.{SymInst}
 use Rattle.spu_lift.specs.declared.program.Prog.{Prog}
 use Rattle.spu_lift.specs.Places.{instruction_at, stack_pointer, Writes}
@@ -13,8 +13,10 @@ use Rattle.spu_frame.specs.declared.met.Met.TheVariants.{Never, Once, Twice}
 use Rattle.spu_frame.specs.Walks.{Adds, Reaches}
 use Rattle.spu_frame.specs.Frames.{IsExit, IsDepthAt, IsDepthInRange, IsFrame}
 use Rattle.spu_frame.specs.Faults.{HasTwoDepths, ExitsWithin, LeavesRange}
-use Rattle.spu_frame.specs.Surveys.{code_of, AreKnown, met_at, Keeps, IsTwice, Covers, met_behind, amount_in, behind_node, AreMet, AreSingle, IsLevel, IsInRange, IsDeep, IsMetInRange, IsDepthOf, deeper}
-use Rattle.spu_frame.proofs.Formed.{place_within}
+use Rattle.spu_frame.specs.Surveys.{code_of, AreKnown, met_at, Keeps, IsTwice, Covers, met_behind, amount_in, behind_node, AreMet, AreSingle, IsLevel, IsInRange, IsDeep, IsMetInRange, IsDepthOf, KnowsWrites, AreDepthsIn, deeper}
+use Rattle.spu_frame.specs.Found.{depth_in}
+use Rattle.spu_frame.proofs.Walks.{reaches_start}
+use Rattle.spu_frame.proofs.Formed.{place_at, place_within, code_some}
 use Rattle.spu_frame.proofs.Spreading.{behind_of, keeps_behind, behind_keeps, behind_adds, adds_known}
 
 pub int_equal : (a b : ℤ) → (a ≡ b) ⊎ (a ≡ b → ⊥)
@@ -172,3 +174,92 @@ deeper_is P frame o (Once d) (v, at, same) old new = subst (λ q. P (pos (deeper
     by_order : (frame < v) ⊎ (v ≤ frame) → P (pos (max frame v))
     by_order (inl lt) = let e : v ≡ max frame v = omega (arith, lt) in subst (λ w. P (pos w)) e (subst P same (new d refl))
     by_order (inr le) = let e : frame ≡ max frame v = omega (arith, le) in subst (λ w. P (pos w)) e old
+
+-- ---- the depths of the first n places, and the greatest of them
+
+pub record AreDepthsTo (p : Prog) (f : ℕ) (met : List Met) (n : ℕ) (depths : List (Option ℕ)) (frame : ℕ) : Type 0 where
+  pub count : length depths ≡ n
+  pub each : (j : ℕ) → j < n → IsDepthOf (met_at met j) (depth_in (slice_get depths j))
+  pub most : (j : ℕ) (m : ℤ) → j < n → IsDepthAt p f j m → m ≤ℤ pos frame
+  pub some : (at : ℕ) × IsDepthAt p f at (pos frame)
+
+pub depths_start : (p : Prog) → IsWellFormed p → (f : ℕ) → f < length p.functions → (met : List Met) (depths : List (Option ℕ)) → depths ≡ [] → AreDepthsTo p f met 0 depths 0
+depths_start p formed f inside met depths e = record {
+  count = ap length e;
+  each = λ j lt. absurd (omega (arith, lt));
+  most = λ j m lt d. absurd (omega (arith, lt));
+  some = (0, inl (reaches_start p f (place_at p f 0 (let one = code_some p formed f inside in omega (arith, one)))));
+}
+
+le_trans : (a : ℤ) (b c : ℕ) → a ≤ℤ pos b → b ≤ c → a ≤ℤ pos c
+le_trans a b c x y = omega (arith, ints, x, y)
+
+module _ (p : Prog) (f : ℕ) (met : List Met) (are : AreMet p f met) (single : AreSingle p f met) (formed : IsWellFormed p) (inside : f < length p.functions) (known : List (Option ℤ)) (knows : AreKnown p f known) where
+  pub depths_more : (n : ℕ) (depths new : List (Option ℕ)) (frame : ℕ) (before behind : Option ℕ) → n < length (code_of p f) → AreDepthsTo p f met n depths frame → new ≡ depths ++ before ∷ [] → IsDepthOf (met_at met n) before
+      → IsDepthOf (behind_node known met n) behind → AreDepthsTo p f met (n + 1) new (deeper (deeper frame before) behind)
+  depths_more n depths new frame before behind lt d e is also = record {
+    count = (let more = length_more depths before in let count = d.count in let whole = ap length e in omega (arith, more, count, whole));
+    each = below_more (λ j. IsDepthOf (met_at met j) (depth_in (slice_get new j))) n old_each new_each;
+    most = λ j m le depth. below_more (λ j. (m : ℤ) → IsDepthAt p f j m → m ≤ℤ pos (deeper (deeper frame before) behind)) n old_most new_most j le m depth;
+    some = deeper_is Attained (deeper frame before) behind (behind_node known met n) also
+        (deeper_is Attained frame before (met_at met n) is d.some (λ m once. (n, before_depth p f met are single formed inside known knows n m lt once)))
+        (λ m once. (n, after_depth p f met are single formed inside known knows n m lt once));
+  }
+    where
+      Attained : ℤ → Type 0
+      Attained z = (at : ℕ) × IsDepthAt p f at z
+
+      old_each : (j : ℕ) → j < n → IsDepthOf (met_at met j) (depth_in (slice_get new j))
+      old_each j below =
+          let same = ap (λ (xs : List (Option ℕ)). slice_get xs j) e ∙ get_more_before depths before j (let count = d.count in omega (arith, count, below)) in
+          subst (λ o. IsDepthOf (met_at met j) (depth_in o)) (sym same) (d.each j below)
+
+      new_each : IsDepthOf (met_at met n) (depth_in (slice_get new n))
+      new_each =
+          let same = ap (λ (xs : List (Option ℕ)). slice_get xs n) e ∙ get_more_last depths before n (sym d.count) in
+          subst (λ o. IsDepthOf (met_at met n) (depth_in o)) (sym same) is
+
+      old_most : (j : ℕ) → j < n → (m : ℤ) → IsDepthAt p f j m → m ≤ℤ pos (deeper (deeper frame before) behind)
+      old_most j below m depth = le_trans m frame (deeper (deeper frame before) behind) (d.most j m below depth) (let a = deeper_above frame before in let b = deeper_above (deeper frame before) behind in omega (arith, a, b))
+
+      new_most : (m : ℤ) → IsDepthAt p f n m → m ≤ℤ pos (deeper (deeper frame before) behind)
+      new_most m depth = by_once (depth_once p f met are single formed inside known knows n m depth)
+        where
+          by_once : (met_at met n ≡ Once m) ⊎ (behind_node known met n ≡ Once m) → m ≤ℤ pos (deeper (deeper frame before) behind)
+          by_once (inl once) = le_trans m (deeper frame before) (deeper (deeper frame before) behind) (deeper_over frame before (met_at met n) m is once) (deeper_above (deeper frame before) behind)
+          by_once (inr once) = deeper_over (deeper frame before) behind (behind_node known met n) m also once
+
+  pub depths_end : (n : ℕ) (depths : List (Option ℕ)) (frame : ℕ) → n ≡ length (code_of p f) → AreDepthsTo p f met n depths frame → KnowsWrites p f → IsLevel p f → IsInRange p f → AreDepthsIn p f (record { depths = depths; frame = frame })
+  depths_end n depths frame all d writes level range = record {
+    known = writes;
+    agreed = agreed p f met are single;
+    level = level;
+    range = range;
+    some = λ i m e. reach i m (slice_get depths i) refl e;
+    none = λ i m e r. never i m (reached_in i m r) (single_once p f met are single i m r) e;
+    greatest = record { at = d.some.0; some = d.some.1; most = λ i m depth. d.most i m (let lt = depth_within_code p f met are single formed inside known knows i m depth in omega (arith, lt, all)) depth };
+  }
+    where
+      reached_in : (i : ℕ) (m : ℤ) → Reaches p f i m → i < n
+      reached_in i m r = let here = r.here in let lt = place_within p f i here.0 here.1 in omega (arith, lt, all)
+
+      once_is : (mt : Met) (m : ℕ) → IsDepthOf mt (Some m) → mt ≡ Once (pos m)
+      once_is Never m is = absurd (cc)
+      once_is (Twice a b) m is = absurd (cc)
+      once_is (Once a) m (v, e, same) = let number : m ≡ v = cc in ap Once (same ∙ ap pos (sym number))
+
+      reach : (i m : ℕ) (o : Option (Option ℕ)) → slice_get depths i ≡ o → depth_in o ≡ Some m → Reaches p f i (pos m)
+      reach i m None at e = absurd (cc)
+      reach i m (Some o) at e =
+          let within = get_within depths i o at in
+          let count = d.count in
+          let is = subst (λ q. IsDepthOf (met_at met i) (depth_in q)) at (d.each i (omega (arith, within, count))) in
+          once_reaches p f met are single i (pos m) (omega (arith, within, count, all)) (once_is (met_at met i) m (subst (IsDepthOf (met_at met i)) e is))
+
+      no_depth : (mt : Met) (m : ℤ) → mt ≡ Once m → IsDepthOf mt None → ⊥
+      no_depth Never m e is = absurd (cc)
+      no_depth (Twice a b) m e is = absurd (cc)
+      no_depth (Once a) m e (v, none, same) = absurd (cc)
+
+      never : (i : ℕ) (m : ℤ) → i < n → met_at met i ≡ Once m → depth_in (slice_get depths i) ≡ None → ⊥
+      never i m lt once e = no_depth (met_at met i) m once (subst (IsDepthOf (met_at met i)) e (d.each i lt))

@@ -9,3 +9,4 @@ pub mod Ways
 pub mod Findings
 pub mod Worst
 pub mod Scans
+pub mod Tests

@@ -1,9 +1,9 @@
 //! The frame of one function, or what is wrong with it.
 
-ghost use Rattle.std.specs.Prelude.{◌≡◌, ◌<◌, ◌↔◌, length, IsTrue, IfOk, IfSome, IfNone};
+ghost use Rattle.std.specs.Prelude.{◌≡◌, ◌^◌, ◌<◌, ◌⊎◌, ◌↔◌, ℤ, true, false, Some, None, length, slice_get, IsTrue, IfOk, IfSome, IfNone};
 ghost use Rattle.spu_lift.specs.WellFormed.{IsWellFormed};
 ghost use Rattle.spu_frame.specs.Faults.{WritesOtherwise, HasTwoDepths, ExitsWithin, LeavesRange};
-ghost use Rattle.spu_frame.specs.Surveys.{code_of, AreKnown, AreMet, AreSingle, AreDepthsIn, IsFinding, IsFirst, IsTwice, IsDeep, IsMetInRange, IsDepthOf, KnowsWrites, IsLevel, IsInRange, deeper};
+ghost use Rattle.spu_frame.specs.Surveys.{code_of, AreKnown, AreMet, AreSingle, AreDepthsIn, IsFinding, IsFirst, IsTwice, IsDeep, IsMetInRange, IsDepthOf, KnowsWrites, IsLevel, IsInRange, deeper, Keeps, IsWithin, met_at, behind_node};
 
 use crate::faults::FrameKind;
 use crate::known::known_writes;
@@ -30,6 +30,18 @@ pub enum Finding {
     Faulty(FrameKind, usize),
 }
 
+/// Whether a place is no known write.
+fn is_unknown(known: &[Option<i32>], i: usize) -> bool
+    requires { i < length known.now }
+    ensures yes { result ≡ true → slice_get known.now i ≡ Some None }
+    ensures no { result ≡ false → (k : ℤ) × (slice_get known.now i ≡ Some (Some k)) }
+{
+    match amount(known, i) {
+        Some(_) => false,
+        None => true,
+    }
+}
+
 /// The first place of a function other than the start code that writes the stack pointer otherwise than by a known
 /// write.
 fn unknown_write(p: &Prog, f: u32, known: &[Option<i32>]) -> Option<usize>
@@ -43,7 +55,7 @@ fn unknown_write(p: &Prog, f: u32, known: &[Option<i32>]) -> Option<usize>
         return None;
     }
     for i in 0..code_of(p, f).len() {
-        if writes(instruction(p, f, i), STACK_POINTER) && amount(known, i).is_none() {
+        if writes(instruction(p, f, i), STACK_POINTER) && is_unknown(known, i) {
             return Some(i);
         }
     }
@@ -113,8 +125,23 @@ fn is_in_range(met: Met) -> bool
     }
 }
 
+/// Whether the depth before or behind a place isn't in range.
+fn leaves_range(known: &[Option<i32>], met: &[Met], i: usize) -> bool
+    requires met { i < length met.now }
+    requires known { i < length known.now }
+    requires small { (n : ℤ) → Keeps (met_at met.now i) n → IsWithin n (2 ^ 40) }
+    ensures yes { result ≡ true → (IsMetInRange (met_at met.now i) → ⊥) ⊎ (IsMetInRange (behind_node known.now met.now i) → ⊥) }
+    ensures no { result ≡ false → IsMetInRange (met_at met.now i) × IsMetInRange (behind_node known.now met.now i) }
+{
+    if !is_in_range(met_at(met, i)) {
+        return true;
+    }
+    !is_in_range(behind(met_at(met, i), amount(known, i)))
+}
+
 /// The first place of a function before or after which a depth isn't in range.
 fn out_of_range(p: &Prog, f: u32, known: &[Option<i32>], met: &[Met]) -> Option<usize>
+    requires formed { IsWellFormed p.now }
     requires f { f < length p.now.functions }
     requires known { AreKnown p.now f known.now }
     requires met { AreMet p.now f met.now }
@@ -124,7 +151,7 @@ fn out_of_range(p: &Prog, f: u32, known: &[Option<i32>], met: &[Met]) -> Option<
     ensures range { IfNone result (IsInRange p.now f) }
 {
     for i in 0..code_of(p, f).len() {
-        if !is_in_range(met_at(met, i)) || !is_in_range(behind(met_at(met, i), amount(known, i))) {
+        if leaves_range(known, met, i) {
             return Some(i);
         }
     }
