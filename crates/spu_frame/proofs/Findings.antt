@@ -1,23 +1,23 @@
 -- What the depths of a function tell: where walks disagree, which exits are deep, which depths are out of range.
-use Rattle.std.proofs.Common.{◌≡◌, ℕ, zero, suc, ◌+◌, ◌<◌, ◌≤◌, ◌⊎◌, inl, inr, List, [], ◌∷◌, ◌++◌, length, Option, Some, None, below_more, refl, sym, ap, ◌∙◌, subst, arith, ℤ, pos, negsuc}
-use Rattle.std.specs.Prelude.{slice_get, ◌+ℤ◌, ◌≤ℤ◌, max}
+use Rattle.std.proofs.Common.{◌≡◌, ℕ, ◌+◌, ◌<◌, ◌≤◌, ◌⊎◌, inl, inr, List, [], ◌∷◌, ◌++◌, length, Option, Some, None, below_more, refl, sym, ap, ◌∙◌, subst, arith, ℤ, pos, negsuc}
+use Rattle.std.specs.Prelude.{slice_get, ◌≤ℤ◌, max}
 use Rattle.std.proofs.lemmas.Int.{ints}
 use Rattle.std.proofs.lemmas.Bool.{cases_lt}
 use Rattle.spu_word.proofs.Places.{nat_equal, get_within, get_more_before, get_more_last, length_more}
 use Rattle.spu_lift.specs.declared.program.SymInst.{SymInst}
 use Rattle.spu_lift.specs.declared.program.Prog.{Prog}
-use Rattle.spu_lift.specs.Places.{instruction_at, stack_pointer, Writes}
+use Rattle.spu_lift.specs.Places.{instruction_at}
 use Rattle.spu_lift.specs.WellFormed.{IsWellFormed}
 use Rattle.spu_frame.specs.declared.met.Met.{Met}
 use Rattle.spu_frame.specs.declared.met.Met.TheVariants.{Never, Once, Twice}
-use Rattle.spu_frame.specs.Walks.{Adds, Reaches}
-use Rattle.spu_frame.specs.Frames.{IsExit, IsDepthAt, IsDepthInRange, IsFrame}
+use Rattle.spu_frame.specs.Walks.{Reaches}
+use Rattle.spu_frame.specs.Frames.{IsExit, IsDepthAt, IsDepthInRange}
 use Rattle.spu_frame.specs.Faults.{HasTwoDepths, ExitsWithin, LeavesRange}
 use Rattle.spu_frame.specs.Surveys.{code_of, AreKnown, met_at, Keeps, IsTwice, Covers, met_behind, amount_in, behind_node, AreMet, AreSingle, IsLevel, IsInRange, IsDeep, IsMetInRange, IsDepthOf, KnowsWrites, AreDepthsIn, deeper}
 use Rattle.spu_frame.specs.Found.{depth_in}
 use Rattle.spu_frame.proofs.Walks.{reaches_start}
 use Rattle.spu_frame.proofs.Formed.{place_at, place_within, code_some}
-use Rattle.spu_frame.proofs.Spreading.{behind_of, keeps_behind, behind_keeps, behind_adds, adds_known}
+use Rattle.spu_frame.proofs.Spreading.{behind_of, keeps_behind, behind_adds, adds_known}
 
 pub int_equal : (a b : ℤ) → (a ≡ b) ⊎ (a ≡ b → ⊥)
 int_equal (pos m) (pos n) = elim (nat_equal m n) as (λ s. (pos m ≡ pos n) ⊎ (pos m ≡ pos n → ⊥)) [ inl e ↦ inl (ap pos e) | inr ne ↦ inr (λ e. ne (cc)) ]

@@ -1,26 +1,26 @@
 -- What a well-formed program's functions are like.
-use Rattle.std.proofs.Common.{◌≡◌, ℕ, zero, suc, ◌+◌, ◌*◌, ◌^◌, ◌<◌, ◌≤◌, ◌⊎◌, inl, inr, List, [], ◌∷◌, length, Option, Some, None, IfSome, refl, sym, ap, ◌∙◌, subst, arith, ℤ, pos}
-use Rattle.std.specs.Prelude.{slice_get, All, ◌+ℤ◌, ◌≤ℤ◌}
+use Rattle.std.proofs.Common.{◌≡◌, ℕ, zero, suc, ◌+◌, ◌*◌, ◌^◌, ◌<◌, ◌≤◌, ◌⊎◌, inl, inr, List, length, Option, Some, None, IfSome, refl, sym, ap, ◌∙◌, subst, arith, ℤ}
+use Rattle.std.specs.Prelude.{slice_get, ◌≤ℤ◌}
 use Rattle.std.specs.List.{Contains}
 use Rattle.std.proofs.lemmas.Int.{ints}
 use Rattle.std.proofs.lemmas.Option.{slice_get_within, slice_get-get_or, get_or_from_slice_get}
 use Rattle.std.proofs.lemmas.List.Elements.{All-contains}
 use Rattle.spu_word.proofs.Places.{nat_equal, get_some}
-use Rattle.spu_word.specs.declared.limits.TheConstants.{MAX_SECTION_SIZE, REGISTER_COUNT, WORD_SIZE}
+use Rattle.spu_word.specs.declared.limits.TheConstants.{MAX_SECTION_SIZE, REGISTER_COUNT}
 use Rattle.spu_isa.specs.declared.operation.Op.TheVariants as op
 use Rattle.spu_isa.specs.declared.instruction.Inst.{Inst}
 use Rattle.spu_isa.specs.declared.operation.Layout.{Layout}
 use Rattle.spu_isa.specs.declared.operation.Layout.TheVariants.{Rr, Rrr, Ri7, Ri10, Ri16, Ri18, HintA, HintB, StopForm}
-use Rattle.spu_isa.specs.Table.{InLayout, InRange, row_of, least_signed, most_signed}
+use Rattle.spu_isa.specs.Table.{InLayout, row_of, least_signed, most_signed}
 use Rattle.spu_lift.specs.declared.program.Operand.{Operand}
 use Rattle.spu_lift.specs.declared.program.Operand.TheVariants as operand
 use Rattle.spu_lift.specs.declared.program.SymInst.{SymInst}
 use Rattle.spu_lift.specs.declared.program.Function.{Function}
 use Rattle.spu_lift.specs.declared.program.CodeSection.{CodeSection}
 use Rattle.spu_lift.specs.declared.program.Prog.{Prog}
-use Rattle.spu_lift.specs.Places.{place_in, instruction_at, taken_in, taken_places, IsPlace, IsBranchTarget, IsTarget}
+use Rattle.spu_lift.specs.Places.{place_in, instruction_at, taken_places, IsPlace, IsTarget}
 use Rattle.spu_lift.specs.StartCode.{start_code}
-use Rattle.spu_lift.specs.WellFormed.{IsOperand, IsInstruction, IsFunction, IsWellFormed}
+use Rattle.spu_lift.specs.WellFormed.{IsOperand, IsWellFormed}
 use Rattle.spu_frame.specs.Walks.{AddsImmediate, AddsRegister, IsKnownWrite}
 use Rattle.spu_frame.specs.Surveys.{code_in, code_of, IsWithin}
 

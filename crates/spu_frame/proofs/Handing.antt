@@ -1,12 +1,12 @@
 -- Depths that are handed to nodes.
-use Rattle.std.proofs.Common.{◌≡◌, ℕ, zero, suc, ◌+◌, ◌<◌, ◌≤◌, ◌⊎◌, inl, inr, Bool, true, false, List, [], ◌∷◌, length, Option, Some, None, refl, sym, ap, ◌∙◌, subst, arith, ℤ}
-use Rattle.std.specs.Prelude.{slice_get, slice_set}
+use Rattle.std.proofs.Common.{◌≡◌, ℕ, zero, suc, ◌+◌, ◌<◌, ◌≤◌, ◌⊎◌, inl, inr, true, false, List, [], ◌∷◌, length, refl, sym, ap, ◌∙◌, subst, arith, ℤ}
+use Rattle.std.specs.Prelude.{slice_set}
 use Rattle.std.proofs.lemmas.List.{length-set}
 use Rattle.spu_word.specs.Lists.{stands_on}
-use Rattle.spu_word.proofs.Places.{nat_equal, get_set_same, get_set_other, get_some}
+use Rattle.spu_word.proofs.Places.{nat_equal, get_set_same, get_set_other}
 use Rattle.spu_frame.specs.declared.met.Met.{Met}
 use Rattle.spu_frame.specs.declared.met.Met.TheVariants.{Never, Once, Twice}
-use Rattle.spu_frame.specs.Surveys.{met_in, met_at, Keeps, IsTwice, Covers, room_of, room, Hands}
+use Rattle.spu_frame.specs.Surveys.{met_in, met_at, Keeps, Covers, room_of, room, Hands}
 
 -- ---- one node with other depths
 

@@ -1,15 +1,14 @@
 -- Marks of the targets of a function.
-use Rattle.std.proofs.Common.{◌≡◌, ℕ, zero, suc, ◌+◌, ◌<◌, ◌≤◌, ◌⊎◌, inl, inr, Bool, true, false, List, length, Option, Some, None, replicate, refl, sym, ap, ◌∙◌, subst, arith}
+use Rattle.std.proofs.Common.{◌≡◌, ℕ, zero, suc, ◌+◌, ◌<◌, ◌≤◌, ◌⊎◌, inl, inr, Bool, true, false, List, length, Some, replicate, refl, sym, ap, ◌∙◌, subst, arith}
 use Rattle.std.specs.Prelude.{slice_get, slice_set}
-use Rattle.std.specs.List.{Contains}
 use Rattle.std.proofs.lemmas.Bool.{cases_lt}
 use Rattle.std.proofs.lemmas.List.{length-set}
-use Rattle.spu_word.proofs.Places.{nat_equal, get_within, get_some, get_set_same, get_set_other}
+use Rattle.spu_word.proofs.Places.{nat_equal, get_within, get_set_same, get_set_other}
 use Rattle.spu_lift.specs.declared.program.Operand.{Operand}
 use Rattle.spu_lift.specs.declared.program.Operand.TheVariants as operand
 use Rattle.spu_lift.specs.declared.program.SymInst.{SymInst}
 use Rattle.spu_lift.specs.declared.program.Prog.{Prog}
-use Rattle.spu_lift.specs.Places.{instruction_at, taken_places, IsTarget}
+use Rattle.spu_lift.specs.Places.{taken_places, IsTarget}
 use Rattle.spu_frame.specs.Surveys.{code_of, with_target, AreTargets}
 use Rattle.spu_frame.proofs.Formed.{code_is, contains_at, contains_place}
 

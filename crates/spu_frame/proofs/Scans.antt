@@ -3,17 +3,15 @@ use Rattle.std.proofs.Common.{◌≡◌, ℕ, zero, suc, ◌+◌, ◌<◌, ◌�
 use Rattle.std.specs.Prelude.{slice_get, slice_set}
 use Rattle.std.proofs.lemmas.Bool.{cases_lt}
 use Rattle.spu_word.proofs.Places.{nat_equal, get_some, get_within, get_set_same, get_set_other, get_more_before, get_more_last, length_more}
-use Rattle.spu_word.proofs.Links.{some_number}
 use Rattle.spu_word.specs.declared.limits.TheConstants.{REGISTER_COUNT}
 use Rattle.std.proofs.lemmas.List.{length-set}
-use Rattle.spu_isa.specs.declared.operation.Op.TheVariants as op
 use Rattle.spu_isa.specs.Table.{row_of}
 use Rattle.spu_lift.specs.declared.program.SymInst.{SymInst}
 use Rattle.spu_lift.specs.declared.program.Prog.{Prog}
 use Rattle.spu_lift.specs.Places.{instruction_at, kind_of, Writes, IsTarget}
 use Rattle.spu_lift.specs.WellFormed.{IsWellFormed}
 use Rattle.spu_frame.specs.Walks.{leads_away, Holds, AddsImmediate, AddsRegister, IsKnownWrite}
-use Rattle.spu_frame.specs.Surveys.{code_of, AreTargets, IsPlainNumber, IsLoaded, IsRegisterAddition, IsLoadAdded, IsScan}
+use Rattle.spu_frame.specs.Surveys.{code_of, AreTargets, IsLoaded, IsRegisterAddition, IsLoadAdded, IsScan}
 use Rattle.spu_frame.proofs.Walks.{same_instruction}
 use Rattle.spu_frame.proofs.Additions.{place_cases}
 use Rattle.spu_frame.proofs.Formed.{code_is, target_within}

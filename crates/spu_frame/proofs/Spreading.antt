@@ -1,22 +1,20 @@
 -- Depths spread along ways, from the first place on, until each of them has been handed on.
-use Rattle.std.proofs.Common.{◌≡◌, ℕ, zero, suc, ◌+◌, ◌-◌, ◌*◌, ◌^◌, ◌<◌, ◌≤◌, ◌⊎◌, inl, inr, Bool, true, false, List, [], ◌∷◌, length, Option, Some, None, replicate, refl, sym, ap, ◌∙◌, subst, arith, ℤ, pos}
-use Rattle.std.specs.Prelude.{slice_get, slice_set, ◌+ℤ◌, ◌-ℤ◌, ◌≤ℤ◌}
-use Rattle.std.specs.List.{Contains}
+use Rattle.std.proofs.Common.{◌≡◌, ℕ, zero, suc, ◌+◌, ◌*◌, ◌^◌, ◌<◌, ◌≤◌, ◌⊎◌, inl, inr, Bool, true, false, List, [], ◌∷◌, length, Option, Some, None, replicate, refl, sym, ap, ◌∙◌, subst, arith, ℤ, pos}
+use Rattle.std.specs.Prelude.{slice_get, ◌+ℤ◌, ◌-ℤ◌}
 use Rattle.std.proofs.lemmas.Int.{ints}
 use Rattle.spu_word.specs.Lists.{stands_on, without}
 use Rattle.spu_word.proofs.Places.{nat_equal, get_some, get_within, stands_without}
-use Rattle.spu_isa.specs.declared.operation.Kind.TheVariants as kind
 use Rattle.spu_lift.specs.declared.program.SymInst.{SymInst}
 use Rattle.spu_lift.specs.declared.program.Prog.{Prog}
-use Rattle.spu_lift.specs.Places.{instruction_at, taken_places, kind_of, IsPlace}
+use Rattle.spu_lift.specs.Places.{instruction_at}
 use Rattle.spu_lift.specs.WellFormed.{IsWellFormed}
 use Rattle.spu_frame.specs.declared.met.Met.{Met}
 use Rattle.spu_frame.specs.declared.met.Met.TheVariants.{Never, Once, Twice}
-use Rattle.spu_frame.specs.Walks.{GoesOn, Branches, Points, Follows, IsKnownWrite, Adds, IsWalk, IsDepth, Reaches}
-use Rattle.spu_frame.specs.Surveys.{code_of, IsPointerBranch, AreKnown, met_in, met_at, Keeps, IsTwice, Covers, less, met_behind, amount_in, behind_node, room_of, room, Hands, PointsAt, IsTakenFrom, IsWay, IsPointed, Comes, farthest, IsWithin, IsSpread, AreMet}
-use Rattle.spu_frame.proofs.Walks.{same_instruction, reaches_next, reaches_start, adds_none}
+use Rattle.spu_frame.specs.Walks.{Follows, Adds, IsWalk, IsDepth, Reaches}
+use Rattle.spu_frame.specs.Surveys.{code_of, IsPointerBranch, AreKnown, met_at, Keeps, IsTwice, Covers, met_behind, amount_in, behind_node, room, Hands, IsWay, IsPointed, Comes, farthest, IsWithin, IsSpread, AreMet}
+use Rattle.spu_frame.proofs.Walks.{reaches_next, reaches_start, adds_none}
 use Rattle.spu_frame.proofs.Additions.{adds_one}
-use Rattle.spu_frame.proofs.Formed.{code_is, place_within, place_at, branch_within, taken_within, code_some, code_small, known_small}
+use Rattle.spu_frame.proofs.Formed.{place_within, place_at, branch_within, taken_within, code_some, code_small, known_small}
 
 -- ---- depths behind an instruction
 

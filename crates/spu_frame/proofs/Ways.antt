@@ -1,5 +1,5 @@
 -- Depths that are handed along the ways from one node.
-use Rattle.std.proofs.Common.{◌≡◌, ℕ, ◌+◌, ◌<◌, ◌≤◌, ◌⊎◌, inl, inr, true, List, [], ◌∷◌, length, get_or, Option, Some, None, refl, sym, ap, ◌∙◌, subst, arith, ℤ}
+use Rattle.std.proofs.Common.{◌≡◌, ℕ, ◌+◌, ◌<◌, ◌≤◌, ◌⊎◌, inl, inr, List, length, get_or, Option, Some, sym, ap, ◌∙◌, subst, arith, ℤ}
 use Rattle.std.specs.Prelude.{slice_get}
 use Rattle.std.specs.List.{Contains}
 use Rattle.std.proofs.lemmas.Bool.{cases_lt}
@@ -12,7 +12,7 @@ use Rattle.spu_lift.specs.declared.program.Prog.{Prog}
 use Rattle.spu_lift.specs.Places.{instruction_at, taken_places}
 use Rattle.spu_frame.specs.declared.met.Met.{Met}
 use Rattle.spu_frame.specs.Walks.{GoesOn, Branches}
-use Rattle.spu_frame.specs.Surveys.{code_of, IsPointerBranch, met_at, met_behind, amount_in, behind_node, Hands, PointsAt, IsTakenFrom, IsWay}
+use Rattle.spu_frame.specs.Surveys.{code_of, IsPointerBranch, met_at, met_behind, amount_in, behind_node, Hands, PointsAt, IsWay}
 use Rattle.spu_frame.proofs.Walks.{same_instruction}
 use Rattle.spu_frame.proofs.Formed.{place_within, taken_within, contains_at, contains_place}
 use Rattle.spu_frame.proofs.Handing.{no_hands, hands_then, hands_to}

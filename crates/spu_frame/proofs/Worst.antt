@@ -1,12 +1,12 @@
 -- From what is found in each function to what is wrong with the program, or its depths.
-use Rattle.std.proofs.Common.{◌≡◌, ℕ, zero, suc, ◌+◌, ◌<◌, ◌≤◌, ◌++◌, ◌⊎◌, inl, inr, Bool, true, false, List, [], ◌∷◌, length, Option, Some, None, refl, sym, ap, ◌∙◌, subst, arith, ℤ, pos}
+use Rattle.std.proofs.Common.{◌≡◌, ℕ, ◌+◌, ◌<◌, ◌≤◌, ◌++◌, ◌⊎◌, inl, inr, Bool, true, false, List, [], ◌∷◌, length, Option, Some, None, refl, sym, ap, ◌∙◌, subst, arith, ℤ, pos}
 use Rattle.std.specs.Prelude.{slice_get, nat_lt, if◌then◌else◌}
 use Rattle.std.proofs.lemmas.Bool.{cases_lt, ltb-true}
 use Rattle.std.proofs.lemmas.Bool.Decides.{nat_tests}
-use Rattle.spu_word.proofs.Places.{nat_equal, get_within, get_some, get_past, get_more_before, get_more_last, length_more}
+use Rattle.spu_word.proofs.Places.{get_within, get_some, get_past, get_more_before, get_more_last, length_more}
 use Rattle.spu_lift.specs.declared.program.SymInst.{SymInst}
 use Rattle.spu_lift.specs.declared.program.Prog.{Prog}
-use Rattle.spu_lift.specs.Places.{instruction_at, place_in, IsPlace}
+use Rattle.spu_lift.specs.Places.{instruction_at, place_in}
 use Rattle.spu_frame.specs.declared.depths.Flaw.{Flaw}
 use Rattle.spu_frame.specs.declared.depths.Depths.{Depths}
 use Rattle.spu_frame.specs.declared.faults.FrameKind.{FrameKind}
@@ -15,10 +15,9 @@ use Rattle.spu_frame.specs.declared.survey.FunctionDepths.{FunctionDepths}
 use Rattle.spu_frame.specs.Walks.{Reaches}
 use Rattle.spu_frame.specs.Frames.{AreDepths, IsFrame, IsDepthAt}
 use Rattle.spu_frame.specs.Faults.{IsFaulty, IsFrameFault, number_of}
-use Rattle.spu_frame.specs.Found.{depth_in, depth_within, frame_within, depth_at, frame_at}
-use Rattle.spu_frame.specs.Surveys.{code_of, AreDepthsIn, IsFaultIn}
+use Rattle.spu_frame.specs.Found.{depth_within, frame_within, depth_at, frame_at}
+use Rattle.spu_frame.specs.Surveys.{AreDepthsIn, IsFaultIn}
 use Rattle.spu_frame.specs.Flaws.{worse, IsWorst, AreFound}
-use Rattle.spu_frame.proofs.Formed.{place_within}
 
 -- good depths of a function leave no fault in it
 pub good_in : (p : Prog) (f : ℕ) (d : FunctionDepths) → AreDepthsIn p f d → (kind : FrameKind) (i : ℕ) → IsFaulty kind p f i → ⊥

@@ -1,5 +1,5 @@
 -- The worst flaw of the functions that were surveyed so far. No clause of a public call cites it.
-use Rattle.std.specs.Prelude.{◌≡◌, ℕ, ◌+◌, ◌<◌, ◌⊎◌, nat_lt, if◌then◌else◌, length, Option, Some, None, slice_get, List}
+use Rattle.std.specs.Prelude.{◌≡◌, ℕ, ◌<◌, ◌⊎◌, nat_lt, if◌then◌else◌, length, Option, Some, None, slice_get, List}
 use Rattle.spu_lift.specs.declared.program.Prog.{Prog}
 use Rattle.spu_frame.specs.declared.depths.Flaw.{Flaw}
 use Rattle.spu_frame.specs.declared.faults.FrameKind.{FrameKind}

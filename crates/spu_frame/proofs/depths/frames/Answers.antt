@@ -1,10 +1,10 @@
-use Rattle.std.proofs.Common.{◌≡◌, ◌+◌, ℕ, List, Option, Some, None, length, refl, sym, ap, ◌∙◌, subst, arith}
+use Rattle.std.proofs.Common.{◌≡◌, ◌+◌, ℕ, List, Option, refl, sym, ◌∙◌, subst, arith}
 use Rattle.spu_lift.specs.declared.program.Prog.{Prog}
 use Rattle.spu_frame.specs.declared.depths.Flaw.{Flaw}
 use Rattle.spu_frame.specs.declared.depths.Depths.{Depths}
 use Rattle.spu_frame.specs.declared.survey.FunctionDepths.{FunctionDepths}
 use Rattle.spu_frame.specs.declared.survey.Finding.{Finding}
-use Rattle.spu_frame.specs.declared.survey.Finding.TheVariants.{Good, Faulty}
+use Rattle.spu_frame.specs.declared.survey.Finding.TheVariants.{Good}
 use Rattle.spu_frame.specs.Surveys.{AreDepthsIn, IsFaultIn, IsFinding}
 use Rattle.spu_frame.specs.Flaws.{AreFound}
 use Rattle.spu_frame.proofs.Formed.{code_small}

@@ -1,8 +1,6 @@
-use Rattle.std.proofs.Common.{◌≡◌, ℕ, List, Option, Some, refl, sym, ap, ◌∙◌, subst, arith, ℤ}
-use Rattle.std.specs.Prelude.{slice_get}
+use Rattle.std.proofs.Common.{◌≡◌, ℕ, Option, Some, refl, subst}
 use Rattle.std.proofs.lemmas.Option.{slice_get_read}
-use Rattle.spu_lift.specs.declared.program.SymInst.{SymInst}
-use Rattle.spu_frame.specs.Surveys.{IsLoaded, IsLoadAdded}
+use Rattle.spu_frame.specs.Surveys.{IsLoaded}
 use Rattle.spu_frame.proofs.known.added_register.Goals as goal
 
 same_writer : (o : Option (Option ℕ)) (a b : Option ℕ) → o ≡ Some a → o ≡ Some b → a ≡ b

@@ -1,7 +1,7 @@
-use Rattle.std.proofs.Common.{◌≡◌, ◌<◌, ℕ, ◌⊎◌, inl, inr, List, length, Some, None, Option, IfSome, arith, refl, sym, ap, ◌∙◌, subst, ℤ}
+use Rattle.std.proofs.Common.{inl, inr, List, length, Some, None, Option, IfSome, arith, sym, ap, subst, ℤ}
 use Rattle.spu_lift.specs.declared.program.SymInst.{SymInst}
 use Rattle.spu_frame.specs.Walks.{AddsImmediate, IsKnownWrite}
-use Rattle.spu_frame.specs.Surveys.{code_of, IsLoadAdded}
+use Rattle.spu_frame.specs.Surveys.{IsLoadAdded}
 use Rattle.spu_frame.proofs.Formed.{place_within, rb_small}
 use Rattle.spu_frame.proofs.Scans.{immediate_known, register_known, known_found}
 use Rattle.spu_frame.proofs.known.known_at.Goals as goal

@@ -1,5 +1,5 @@
-use Rattle.std.proofs.Common.{◌≡◌, ◌<◌, ℕ, List, Option, length, sym, ap, ◌∙◌, subst, arith}
-use Rattle.spu_frame.specs.Surveys.{IsScan, code_of}
+use Rattle.std.proofs.Common.{ℕ, List, Option, sym, subst, arith}
+use Rattle.spu_frame.specs.Surveys.{IsScan}
 use Rattle.spu_frame.proofs.Formed.{rt_small}
 use Rattle.spu_frame.proofs.Scans.{scan_starts, scan_next, known_starts, known_more}
 use Rattle.spu_frame.proofs.known.known_writes.Goals as goal

@@ -1,4 +1,4 @@
-use Rattle.std.proofs.Common.{◌≡◌, ℕ, ◌++◌, List, [], ◌∷◌, Bool, true, false, length, refl, sym, ap, ◌∙◌, arith}
+use Rattle.std.proofs.Common.{ℕ, List, sym, ap, ◌∙◌}
 use Rattle.spu_word.specs.Lists.{stands_on}
 use Rattle.spu_word.specs.Chains.{lists_of}
 use Rattle.spu_frame.proofs.Waiting.{stands_last, stays_off}

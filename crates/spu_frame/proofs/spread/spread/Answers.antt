@@ -1,6 +1,5 @@
-use Rattle.std.proofs.Common.{◌≡◌, ◌+◌, ℕ, suc, List, [], Option, Some, None, IfNone, length, replicate, refl, sym, ap, ◌∙◌, subst, arith, ℤ, pos}
+use Rattle.std.proofs.Common.{◌≡◌, ◌+◌, ℕ, List, [], Option, Some, None, IfNone, length, replicate, refl, sym, ap, subst, arith, pos}
 use Rattle.spu_word.specs.Chains.{lists_of}
-use Rattle.spu_word.specs.Lists.{without}
 use Rattle.spu_lift.specs.declared.program.SymInst.{SymInst}
 use Rattle.spu_frame.specs.declared.met.Met.{Met}
 use Rattle.spu_frame.specs.declared.met.Met.TheVariants.{Never, Once}

@@ -1,10 +1,7 @@
-use Rattle.std.proofs.Common.{◌≡◌, ◌<◌, ℕ, Bool, true, false, List, Some, None, length, below_more, inl, inr, refl, sym, ap, ◌∙◌, subst, arith, ℤ}
+use Rattle.std.proofs.Common.{List, length, ap, subst, arith}
 use Rattle.spu_lift.specs.declared.program.SymInst.{SymInst}
-use Rattle.spu_lift.specs.Places.{instruction_at, stack_pointer, Writes}
-use Rattle.spu_frame.proofs.Walks.{same_instruction}
-use Rattle.spu_frame.proofs.Formed.{place_within}
-use Rattle.spu_frame.specs.Surveys.{met_at, IsTwice}
-use Rattle.spu_frame.proofs.Tests.{told, denied}
+use Rattle.spu_frame.specs.Surveys.{IsTwice}
+use Rattle.spu_frame.proofs.Tests.{told}
 use Rattle.spu_frame.proofs.Findings.{twice_flaw, flaw_twice, two_within}
 use Rattle.spu_frame.proofs.survey.clash.Goals as goal
 

@@ -1,6 +1,6 @@
-use Rattle.std.proofs.Common.{◌≡◌, ◌<◌, ℕ, Bool, true, false, List, Some, None, length, below_more, inl, inr, refl, sym, ap, ◌∙◌, subst, arith, ℤ}
+use Rattle.std.proofs.Common.{◌≡◌, List, Some, length, below_more, sym, ap, subst, arith}
 use Rattle.spu_lift.specs.declared.program.SymInst.{SymInst}
-use Rattle.spu_lift.specs.Places.{instruction_at, stack_pointer, Writes}
+use Rattle.spu_lift.specs.Places.{instruction_at}
 use Rattle.spu_frame.proofs.Walks.{same_instruction}
 use Rattle.spu_frame.proofs.Formed.{place_within}
 use Rattle.spu_frame.specs.Frames.{IsExit}

@@ -1,4 +1,4 @@
-use Rattle.std.proofs.Common.{◌≡◌, ◌<◌, ◌⊎◌, ℕ, List, length, inl, inr, refl, sym, ap, ◌∙◌, subst, arith, ℤ}
+use Rattle.std.proofs.Common.{List, length, inl, inr, ap, arith}
 use Rattle.spu_lift.specs.declared.program.SymInst.{SymInst}
 use Rattle.spu_frame.specs.Faults.{LeavesRange}
 use Rattle.spu_frame.proofs.Findings.{before_out, after_out, range_in, depth_within_code}

@@ -1,4 +1,4 @@
-use Rattle.std.proofs.Common.{◌≡◌, ◌<◌, ℕ, Bool, true, false, List, Some, None, length, below_more, inl, inr, refl, sym, ap, ◌∙◌, subst, arith, ℤ}
+use Rattle.std.proofs.Common.{◌≡◌, List, Some, length, below_more, ap, subst, arith, ℤ}
 use Rattle.spu_lift.specs.declared.program.SymInst.{SymInst}
 use Rattle.spu_lift.specs.Places.{instruction_at, stack_pointer, Writes}
 use Rattle.spu_frame.proofs.Walks.{same_instruction}

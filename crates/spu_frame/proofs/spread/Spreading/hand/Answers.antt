@@ -1,8 +1,8 @@
-use Rattle.std.proofs.Common.{◌≡◌, ℕ, List, length, refl, inl, inr, sym, ap, ◌∙◌, subst, arith, rules, ℤ, FitsSigned, w64, to_z, of_z}
+use Rattle.std.proofs.Common.{◌≡◌, List, inl, inr, sym, ap, ◌∙◌, subst, arith, rules, ℤ, FitsSigned, w64, to_z, of_z}
 use Rattle.std.proofs.lemmas.Int.{ints}
 use Rattle.spu_word.specs.Chains.{lists_of}
 use Rattle.spu_frame.specs.declared.met.Met.{Met}
-use Rattle.spu_frame.specs.declared.met.Met.TheVariants.{Never, Once, Twice}
+use Rattle.spu_frame.specs.declared.met.Met.TheVariants.{Once, Twice}
 use Rattle.spu_frame.specs.Surveys.{Hands, Covers, met_at}
 use Rattle.std.specs.Prelude.{slice_set}
 use Rattle.spu_frame.proofs.Handing.{covered, taken_first, taken_second}

@@ -1,9 +1,8 @@
-use Rattle.std.proofs.Common.{◌≡◌, ◌+◌, ◌<◌, ℕ, true, List, length, refl, sym, ap, ◌∙◌, subst, arith}
+use Rattle.std.proofs.Common.{◌≡◌, ◌+◌, true, List, length, refl, sym, ap, ◌∙◌, subst, arith}
 use Rattle.spu_word.specs.Chains.{lists_of}
 use Rattle.spu_lift.specs.declared.program.SymInst.{SymInst}
 use Rattle.spu_lift.specs.Places.{kind_of}
 use Rattle.spu_frame.specs.Walks.{goes_on, GoesOn}
-use Rattle.spu_frame.specs.Surveys.{code_of}
 use Rattle.spu_frame.proofs.Walks.{same_instruction}
 use Rattle.spu_frame.proofs.Formed.{place_at, place_within}
 use Rattle.spu_frame.proofs.Ways.{hands_one, hands_nowhere, next_one, next_none}

@@ -1,4 +1,4 @@
-use Rattle.std.proofs.Common.{◌≡◌, ℕ, List, length, sym, ap, subst, arith}
+use Rattle.std.proofs.Common.{◌≡◌, List, length, sym, ap, subst, arith}
 use Rattle.std.specs.List.{Contains}
 use Rattle.spu_word.specs.Chains.{lists_of}
 use Rattle.spu_lift.specs.declared.program.SymInst.{SymInst}

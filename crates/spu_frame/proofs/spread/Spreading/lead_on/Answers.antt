@@ -1,4 +1,4 @@
-use Rattle.std.proofs.Common.{◌≡◌, ℕ, List, Option, Some, refl, sym, ap, ◌∙◌, subst, ℤ}
+use Rattle.std.proofs.Common.{List, Option, sym, ap, ◌∙◌, subst, ℤ}
 use Rattle.spu_word.specs.Chains.{lists_of}
 use Rattle.spu_frame.specs.declared.met.Met.{Met}
 use Rattle.spu_frame.specs.Surveys.{Hands, IsWay, met_at, met_behind, amount_in}

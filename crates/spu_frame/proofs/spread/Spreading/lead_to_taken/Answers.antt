@@ -1,4 +1,4 @@
-use Rattle.std.proofs.Common.{◌≡◌, ◌<◌, ◌≤◌, ℕ, List, [], Some, length, get_or, refl, sym, ap, ◌∙◌, subst, arith}
+use Rattle.std.proofs.Common.{◌≡◌, ℕ, List, length, get_or, ap, subst, arith}
 use Rattle.std.specs.List.{Contains}
 use Rattle.spu_word.specs.Chains.{lists_of}
 use Rattle.spu_lift.specs.Places.{taken_places}

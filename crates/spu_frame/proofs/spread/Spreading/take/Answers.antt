@@ -1,4 +1,4 @@
-use Rattle.std.proofs.Common.{◌≡◌, ℕ, List, length, refl, sym, ap, ◌∙◌, arith}
+use Rattle.std.proofs.Common.{ℕ, List, length, sym, ap, arith}
 use Rattle.spu_word.specs.Chains.{lists_of}
 use Rattle.spu_word.proofs.Places.{stands_place}
 use Rattle.spu_frame.proofs.Waiting.{without_first}
