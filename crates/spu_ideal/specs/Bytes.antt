@@ -1,75 +1,58 @@
--- Symbolic bytes: a number, a part of a label, or Unknown. A label names a place of code that has no address yet; a
--- link is what a call leaves in register 0. Moves keep bytes as they are; every other instruction gives a number in
--- each byte all of whose sources are numbers, and else Unknown.
-use Rattle.std.specs.Prelude.{◌≡◌, ℕ, zero, suc, ◌+◌, ◌*◌, ◌^◌, ◌==◌, ◌&&◌, if◌then◌else◌, Bool, true, false, List, [], ◌∷◌, map, Option, Some, None, slice_index, slice_index_or}
+-- Symbolic bytes and quads of them: a byte is a number, a part of a label, or Unknown. A label stands for a place of code that has no
+-- address yet; a link is what a call leaves in the link register.
+use Rattle.std.specs.Prelude.{ℕ, zero, suc, ◌+◌, ◌*◌, ◌==◌, ◌&&◌, if◌then◌else◌, Bool, true, false, List, map, Option, Some, None, slice_index_or}
 use Rattle.std.specs.List.{range_with_len}
-use Rattle.spu_isa.specs.declared.operation.Op.{Op}
-use Rattle.spu_isa.specs.declared.instruction.Inst.{Inst}
-use Rattle.spu_exec.specs.Values.{value}
-use Rattle.spu_exec.specs.declared.sources.Source.{Source}
-use Rattle.spu_exec.specs.declared.sources.Source.TheVariants.{FromRa, FromRb, FromRc, FromRt}
-use Rattle.spu_exec.specs.Reads.{reads}
+use Rattle.spu_word.specs.declared.limits.TheConstants.{QUAD_SIZE, WORD_SIZE}
+use Rattle.spu_exec.specs.Moves.{ByteType, word_number}
+use Rattle.spu_lift.specs.declared.program.Label.{Label}
+use Rattle.spu_lift.specs.declared.program.Label.TheVariants.{Fun, Place, Link}
+use Rattle.spu_lift.specs.declared.symbolic.SymByte.{SymByte}
+use Rattle.spu_lift.specs.declared.symbolic.SymByte.TheVariants.{Num, Part, Unknown}
 
--- a function has 4 bytes, a place of one too, and a link 16; in a link, i is at most the function's length
-pub data Label : Type 0 where
-  Fun : (f : ℕ) → Label
-  Place : (f i : ℕ) → Label
-  Link : (f i : ℕ) → Label
+-- byte k of a quad
+abbrev pub sym_at : List SymByte → ℕ → SymByte
+sym_at quad k = slice_index_or quad k Unknown
 
-pub data Symbol : Type 0 where
-  Num : (v : ℕ) → Symbol
-  Part : (l : Label) (k : ℕ) → Symbol
-  Unknown : Symbol
-
-abbrev pub symbol_at : List Symbol → ℕ → Symbol
-symbol_at quad k = slice_index_or quad k Unknown
-
-abbrev pub numbers : List ℕ → List Symbol
+abbrev pub numbers : List ℕ → List SymByte
 numbers bytes = map Num bytes
 
 -- the 16 bytes that a function of their places gives
-abbrev pub sixteen : (ℕ → Symbol) → List Symbol
-sixteen f = map f (range_with_len 0 16)
+abbrev pub sixteen : (ℕ → SymByte) → List SymByte
+sixteen f = map f (range_with_len 0 QUAD_SIZE)
 
-abbrev pub link_of : ℕ → ℕ → List Symbol
+abbrev pub link_of : ℕ → ℕ → List SymByte
 link_of f i = sixteen (Part (Link f i))
 
-abbrev pub unknown_quad : List Symbol
+abbrev pub unknown_quad : List SymByte
 unknown_quad = sixteen (λ k. Unknown)
 
-abbrev pub is_number : Symbol → Bool
+abbrev pub is_number : SymByte → Bool
 is_number (Num v) = true
 is_number (Part l k) = false
 is_number Unknown = false
 
 -- the number, 0 where there is none
-abbrev pub number_of : Symbol → ℕ
+abbrev pub number_of : SymByte → ℕ
 number_of (Num v) = v
 number_of (Part l k) = 0
 number_of Unknown = 0
 
-abbrev pub known : Symbol → Symbol → Symbol → Symbol → Option ℕ
-known (Num a) (Num b) (Num c) (Num d) = Some (a * 256 ^ 3 + b * 256 ^ 2 + c * 256 + d)
-known _ _ _ _ = None
+-- the number that a byte is
+abbrev pub number_in : SymByte → Option ℕ
+number_in (Num v) = Some v
+number_in (Part l k) = None
+number_in Unknown = None
 
 -- word k of a quad, where its four bytes are numbers
-abbrev pub known_word : List Symbol → ℕ → Option ℕ
-known_word quad k = known (symbol_at quad (4 * k)) (symbol_at quad (4 * k + 1)) (symbol_at quad (4 * k + 2)) (symbol_at quad (4 * k + 3))
+abbrev pub known_word : List SymByte → ℕ → Option ℕ
+known_word quad k =
+    word_number (number_in (sym_at quad (4 * k))) (number_in (sym_at quad (4 * k + 1))) (number_in (sym_at quad (4 * k + 2))) (number_in (sym_at quad (4 * k + 3)))
 
--- whether each of the first n bytes that is read is a number
-unfoldable pub are_known : (ℕ → Bool) → List Symbol → ℕ → Bool
-are_known is_read quad zero = true
-are_known is_read quad (suc j) = (if is_read j then is_number (symbol_at quad j) else true) && are_known is_read quad j
-
--- byte k of what an instruction gives
-unfoldable pub computed_byte : Inst → List Symbol → List Symbol → List Symbol → List Symbol → ℕ → Symbol
-computed_byte x a b c t k =
-    if are_known (reads x.op FromRa k) a 16 && (are_known (reads x.op FromRb k) b 16 && (are_known (reads x.op FromRc k) c 16 && are_known (reads x.op FromRt k) t 16))
-    then Num (slice_index (value x (map number_of a) (map number_of b) (map number_of c) (map number_of t)) k)
-    else Unknown
-
-abbrev pub computed : Inst → List Symbol → List Symbol → List Symbol → List Symbol → List Symbol
-computed x a b c t = sixteen (computed_byte x a b c t)
+-- how many bytes a label has
+abbrev pub size_of : Label → ℕ
+size_of (Fun f) = WORD_SIZE
+size_of (Place f i) = WORD_SIZE
+size_of (Link f i) = QUAD_SIZE
 
 -- whether two labels, and two parts of labels, are one
 abbrev pub same_label : Label → Label → Bool
@@ -78,25 +61,33 @@ same_label (Place f i) (Place g j) = (f == g) && (i == j)
 same_label (Link f i) (Link g j) = (f == g) && (i == j)
 same_label _ _ = false
 
--- `or` moves a part of a label where the other byte is the number 0 or the same part; of two numbers it is computed
-abbrev pub moved_by_or : Symbol → Symbol → Symbol → Symbol
-moved_by_or (Part l k) (Num zero) computed = Part l k
-moved_by_or (Num zero) (Part l k) computed = Part l k
-moved_by_or (Part l k) (Part m j) computed = if same_label l m && (k == j) then Part l k else Unknown
-moved_by_or _ _ computed = computed
-
-abbrev pub or_of : Inst → List Symbol → List Symbol → List Symbol → List Symbol → List Symbol
-or_of x a b c t = sixteen (λ k. moved_by_or (symbol_at a k) (symbol_at b k) (computed_byte x a b c t k))
-
--- whether a quad is a link, in all 16 bytes
-abbrev pub is_part : Label → ℕ → Symbol → Bool
+-- whether a byte is this part of a label; whether the first n bytes of a quad are those of a label; whether all are a link
+abbrev pub is_part : Label → ℕ → SymByte → Bool
 is_part l k (Part m j) = same_label l m && (k == j)
 is_part l k (Num v) = false
 is_part l k Unknown = false
 
-unfoldable pub are_parts : Label → List Symbol → ℕ → Bool
+unfoldable pub are_parts : Label → List SymByte → ℕ → Bool
 are_parts l quad zero = true
-are_parts l quad (suc j) = is_part l j (symbol_at quad j) && are_parts l quad j
+are_parts l quad (suc j) = is_part l j (sym_at quad j) && are_parts l quad j
 
-abbrev pub is_link : ℕ → ℕ → List Symbol → Bool
-is_link f i quad = are_parts (Link f i) quad 16
+abbrev pub is_link : ℕ → ℕ → List SymByte → Bool
+is_link f i quad = are_parts (Link f i) quad QUAD_SIZE
+
+-- ---- symbolic bytes as bytes that are moved
+
+abbrev pub is_zero : SymByte → Bool
+is_zero (Num v) = v == 0
+is_zero (Part l k) = false
+is_zero Unknown = false
+
+abbrev pub same_part : SymByte → SymByte → Bool
+same_part (Part l k) (Part m j) = same_label l m && (k == j)
+same_part _ _ = false
+
+-- the or of two bytes is one of them where the other is the number 0, or where they are one part of a label
+abbrev pub joined : SymByte → SymByte → Option SymByte
+joined s u = if is_zero s then Some u else (if is_zero u then Some s else (if same_part s u then Some s else None))
+
+abbrev pub sym_bytes : ByteType SymByte
+sym_bytes = record { constant = Num; number = number_in; joined = joined }

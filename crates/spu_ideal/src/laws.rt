@@ -1,18 +1,25 @@
 //! Laws of the symbolic machine.
 
-ghost use Rattle.std.specs.Prelude.{◌≡◌, ◌+◌, ◌∷◌, [], ℕ, List, Some};
+ghost use Rattle.std.specs.Prelude.{◌≡◌, ◌+◌, ◌-◌, ◌≤◌, ◌⊎◌, ◌∷◌, [], ℕ, List, Some, length, true};
+ghost use Rattle.spu_word.specs.declared.limits.TheConstants.{STACK_TOP};
+ghost use Rattle.spu_word.specs.declared.load.Inputs.{Inputs};
 ghost use Rattle.spu_lift.specs.declared.program.Prog.{Prog};
 ghost use Rattle.spu_lift.specs.declared.program.SymInst.{SymInst};
-ghost use Rattle.spu_ideal.specs.Bytes.{Symbol, link_of, numbers, known_word};
-ghost use Rattle.spu_ideal.specs.Machine.{Sym, instruction_at, calls, returns, OpenCall, run};
-ghost use Rattle.spu_ideal.specs.Samples.{sends_five, loses_link, copies_link, spoils_link};
-ghost use Rattle.spu_ideal.specs.declared.ending.IdealEnd.TheVariants as ending;
-ghost use Rattle.spu_ideal.specs.declared.ending.Reason.TheVariants as reason;
+ghost use Rattle.spu_lift.specs.Places.{instruction_at, link_register, stack_pointer};
+ghost use Rattle.spu_elf.specs.declared.objects.Object.{Object};
+ghost use Rattle.spu_lift.specs.FirstForm.{IsFirst};
+ghost use Rattle.spu_lift.specs.First.{StandsFor};
+ghost use Rattle.spu_lift.specs.WellFormed.{IsWellFormed};
+ghost use Rattle.spu_ideal.specs.Bytes.{known_word, link_of};
+ghost use Rattle.spu_ideal.specs.State.{Sym};
+ghost use Rattle.spu_ideal.specs.Machine.{calls, run, start, step};
+ghost use Rattle.spu_ideal.specs.States.{IsOf, IsJudged};
+ghost use Rattle.spu_ideal.specs.Promises.{IsHigh};
 
-/// A call leaves the link of the next place in register 0.
+/// A call leaves the link of the next place in the link register.
 #[tactic(auto, using(crate::proofs::Calls::link_left))]
 pub fn call_leaves_link()
-    ensures { (p : Prog) (g : ℕ) (s : Sym) (y : SymInst) → instruction_at p g 0 ≡ Some y → (calls p g s).regs 0 ≡ link_of s.f (s.i + 1) }
+    ensures { (p : Prog) (g : ℕ) (s : Sym) (y : SymInst) → instruction_at p g 0 ≡ Some y → (calls p g s).regs link_register ≡ link_of s.f (s.i + 1) }
 {}
 
 /// A call begins at the first word of the function that it names.
@@ -21,13 +28,39 @@ pub fn call_enters_function()
     ensures { (p : Prog) (g : ℕ) (s : Sym) (y : SymInst) → instruction_at p g 0 ≡ Some y → ((calls p g s).f ≡ g) × ((calls p g s).i ≡ 0) }
 {}
 
-/// A program that sends 5 and returns stops after five steps, and so does one that copies its link away and back; one
-/// that loses its link leaves, and so does one that spoils a byte of it.
-#[tactic(auto, using(crate::proofs::Samples::run_stops, crate::proofs::Samples::five_is_sent, crate::proofs::Samples::run_leaves, crate::proofs::Samples::copy_stops, crate::proofs::Samples::spoilt_leaves))]
-pub fn samples_run()
-    ensures stops { (run sends_five 16384 [] 5).ended ≡ Some (ending.Stop 8192) }
-    ensures sends { (run sends_five 16384 [] 5).output ≡ 5 ∷ [] }
-    ensures leaves { (run loses_link 16384 [] 3).ended ≡ Some (ending.Outside reason.Target 1 1) }
-    ensures copies { (run copies_link 16384 [] 5).ended ≡ Some (ending.Stop 8192) }
-    ensures spoils { (run spoils_link 16384 [] 4).ended ≡ Some (ending.Outside reason.Target 1 2) }
+/// A run begins in a state of its program.
+pub fn start_is_of_program()
+    ensures { (p : Prog) (limit : ℕ) (inputs : Inputs) → IsWellFormed p → IsOf p (start p limit inputs) }
+{}
+
+/// Each step stays in states of the program.
+pub fn step_stays_of_program()
+    ensures { (p : Prog) (frames : ℕ → ℕ) (need : ℕ) → IsJudged p frames need → (s : Sym) → IsOf p s → IsOf p (step p frames s) }
+{}
+
+/// Each state of a run is one of its program.
+pub fn run_stays_of_program()
+    ensures { (p : Prog) (frames : ℕ → ℕ) (need : ℕ) → IsJudged p frames need → (limit : ℕ) (inputs : Inputs) (n : ℕ) → IsOf p (run p frames limit inputs n) }
+{}
+
+/// The stack pointer is a number in each state of a run, and never falls by more than the need.
+pub fn stack_pointer_stays_high()
+    ensures { (p : Prog) (frames : ℕ → ℕ) (need : ℕ) → IsJudged p frames need → (limit : ℕ) (inputs : Inputs) (n : ℕ)
+        → (w : ℕ) × (known_word ((run p frames limit inputs n).regs stack_pointer) 0 ≡ Some w) × (STACK_TOP - need ≤ w) }
+{}
+
+/// There are never more open calls than functions.
+pub fn open_calls_are_few()
+    ensures { (p : Prog) (frames : ℕ → ℕ) (need : ℕ) → IsJudged p frames need → (s : Sym) → IsOf p s → length s.calls ≤ length p.functions }
+{}
+
+/// In each state of a run with a stack that is long enough, what is loaded and stored lies in the data and in the stack
+/// area, and so do the transfers that wait.
+pub fn run_is_high()
+    ensures { (p : Prog) (frames : ℕ → ℕ) (need : ℕ) → IsJudged p frames need → (limit : ℕ) → need ≤ limit → (inputs : Inputs) (n : ℕ) → IsHigh p frames limit (run p frames limit inputs n) }
+{}
+
+/// A program of an object of the first form is judged, with frames of no bytes and no need.
+pub fn first_programs_are_judged()
+    ensures { (o : Object) (p : Prog) → IsFirst o → StandsFor o p → IsJudged p (λ f. 0) 0 }
 {}

@@ -1,3 +1,5 @@
 pub mod StartCode
 pub mod FirstForm
 pub mod First
+pub mod Places
+pub mod WellFormed

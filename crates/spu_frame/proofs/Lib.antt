@@ -1,0 +1,5 @@
+pub mod Walks
+pub mod Additions
+pub mod Marking
+pub mod Holding
+pub mod Pending

@@ -1,0 +1,4 @@
+pub mod Walks
+pub mod Frames
+pub mod Faults
+pub mod Amounts
