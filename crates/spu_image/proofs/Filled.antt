@@ -183,8 +183,10 @@ module _ (p : Prog) (well : IsWellFormed p) (l : Layout) (m n : ℕ) (g : Functi
     where
       old : IsBefore (suc m) n f e → (h ≡ k → i ≡ j → ⊥) → IsWord l (suc f) e y (word_in more h i)
       old b apart = subst (IsWord l (suc f) e y) (sym (word_other ss k j w h i section_known apart)) (filled.places h i f e y b holds)
+
       below : IsBefore (suc m) (n + 1) f e → (e ≡ n → ⊥) → f ≡ m → e < n
       below b ne same = elim b [ inl lt ↦ omega arith | inr q ↦ (let lt = q.1 in elim (cases_lt e n) [ inl lt ↦ lt | inr le ↦ absurd (ne (omega arith)) ]) ]
+
       earlier : IsBefore (suc m) (n + 1) f e → (f ≡ m → ⊥) → suc f < suc m
       earlier b ne = elim b [ inl lt ↦ lt | inr q ↦ absurd (ne (let e = q.0 in omega arith)) ]
 
@@ -247,9 +249,11 @@ module _ (p : Prog) (well : IsWellFormed p) (f : ℕ) (g : Function) (there : sl
   section_by l zero e ne d w is ss filled = absurd (ne refl)
   section_by l (suc m) e ne d w is ss filled =
       let here : slice_get p.functions (suc m) ≡ Some g = subst (λ n. slice_get p.functions n ≡ Some g) e there in
-      let word : IsWord l (suc m) i (get_or xs i d) w = subst (λ n. IsWord l n i (get_or xs i d) w) e is in
-      (section_known p well l m i g here (get_or xs i d) (item_in d) w word ss filled, word_known p well l m i g here (get_or xs i d) (item_in d) w word ss filled,
-      more_filled p well l m i g here (get_or xs i d) (item_in d) w word ss filled)
+      let word : IsWord l (suc m) i (get_or xs i d) w = subst (λ n. IsWord l n i (get_or xs i d) w) e is in (
+        section_known p well l m i g here (get_or xs i d) (item_in d) w word ss filled,
+        word_known p well l m i g here (get_or xs i d) (item_in d) w word ss filled,
+        more_filled p well l m i g here (get_or xs i d) (item_in d) w word ss filled,
+      )
 
   pub put_section : (l : Layout) → f ≢ 0 → (d : SymInst) (w : ℕ) → IsWord l f i (get_or xs i d) w → (ss : List (List ℕ)) → AreFilled p l f i ss → g.section < length ss
   put_section l ne d w is ss filled = (section_by l f refl ne d w is ss filled).0

@@ -67,18 +67,21 @@ module _ (name : List ℕ) (size : ℕ) (code : List SymInst) (first : IsFirstCo
     where
       clash : op.Lqr ≡ op.Ai → ⊥
       clash c = cc
+
       clash_a : op.Lqr ≡ op.A → ⊥
       clash_a c = cc
   no_addition zero (suc zero) x here h e = (let o = op_at _ x here in elim h [ inl is ↦ clash (o ∙ is) | inr is ↦ clash_a (o ∙ is) ])
     where
       clash : op.Brsl ≡ op.Ai → ⊥
       clash c = cc
+
       clash_a : op.Brsl ≡ op.A → ⊥
       clash_a c = cc
   no_addition zero (suc (suc zero)) x here h e = (let o = op_at _ x here in elim h [ inl is ↦ clash (o ∙ is) | inr is ↦ clash_a (o ∙ is) ])
     where
       clash : op.Stop ≡ op.Ai → ⊥
       clash c = cc
+
       clash_a : op.Stop ≡ op.A → ⊥
       clash_a c = cc
   no_addition zero (suc (suc (suc i))) x here h e = no_instruction x here

@@ -64,7 +64,7 @@ pub symbols_next : (l : Layout) (test : Function → Bool) (others : List Functi
 symbols_next l test others i g old now new lt item a b =
     let n : 1 + length (take i others) ≡ i + 1 = (let t = length-take-le i others (omega arith) in omega (arith, t)) in
     let rest : function_symbols l test 1 (take (i + 1) others) ≡ function_symbols l test 1 (take i others) ++ function_symbols l test (i + 1) (g ∷ []) =
-        ap (function_symbols l test 1) (take_more others i g lt ∙ ap (λ x. take i others ++ x ∷ []) (sym item)) ∙ symbols_more l test 1 (take i others) g ∙ ap (λ k. function_symbols l test 1 (take i others) ++ function_symbols l test k (g ∷ [])) n in
+    ap (function_symbols l test 1) (take_more others i g lt ∙ ap (λ x. take i others ++ x ∷ []) (sym item)) ∙ symbols_more l test 1 (take i others) g ∙ ap (λ k. function_symbols l test 1 (take i others) ++ function_symbols l test k (g ∷ [])) n in
     b ∙ ap (λ ss. ss ++ function_symbols l test (i + 1) (g ∷ [])) a ∙ append_assoc old (function_symbols l test 1 (take i others)) (function_symbols l test (i + 1) (g ∷ []))
     ∙ ap (λ ss. old ++ ss) (sym rest)
 

@@ -158,7 +158,7 @@ module _ (p : Prog) (well : IsWellFormed p) (limit : ℕ) (bytes : List ℕ) (ho
       let s = length (joined (take k holds.sections)) in
       let before = before_section holds.sections p.code holds.count sizes k in
       let there : slice_index words (length front + (s + j)) ≡ slice_index (slice_index_or holds.sections k []) j =
-          get_or-append-add front (joined holds.sections) (s + j) 0 ∙ get_or-flat_map (λ (ws : List ℕ). ws) holds.sections k j [] 0 known inside in
+      get_or-append-add front (joined holds.sections) (s + j) 0 ∙ get_or-flat_map (λ (ws : List ℕ). ws) holds.sections k j [] 0 known inside in
       let base = section_of p k in
       let place : at p (planned p) (suc f) i ≡ section_start p (planned p) k + g.offset + 4 * i = ap (λ o. function_start p (planned p) o + 4 * i) e in
       let f4 = four in

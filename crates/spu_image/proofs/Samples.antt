@@ -93,6 +93,7 @@ can_start objects limit l h bytes = record {
       where
         in_store : (bytes : List ℕ) → 128 + length bytes ≤ 262144 → is_in_store (one_segment bytes) ≡ true
         in_store bytes le = grind (arith, nat_tests)
+
         room : (p : Prog) (plan : Plan) (limit : ℕ) → IsWellFormed p → FitsFlat p plan limit → (bytes : List ℕ) → IsLoadSegment p (layout_of p plan limit) limit bytes → 128 + length bytes ≤ 262144
         room p plan limit well fits bytes holds =
             let ends = segment_ends p well limit bytes (subst (λ q. IsLoadSegment p (layout_of p q limit) limit bytes) fits.planned holds) in

@@ -16,12 +16,7 @@ use spu_word::{OutOfMemory, Seq};
 use std::alloc::Global;
 
 /// The executable of a program without data, with a stack of this many bytes.
-pub fn flat_exec(
-    alloc: Global,
-    p: &Prog,
-    layout: &Layout,
-    limit: u32,
-) -> Result<Exec, OutOfMemory>
+pub fn flat_exec(alloc: Global, p: &Prog, layout: &Layout, limit: u32) -> Result<Exec, OutOfMemory>
     requires laid { IsLaidOut p.now layout.now }
     requires no_data { p.now.data_end ≡ DATA_START }
     requires no_globals { p.now.globals ≡ [] }

@@ -90,9 +90,6 @@ module _ (p : Prog) where
           apart = (omega arith, omega arith, (omega arith, omega arith, (omega arith, omega arith, (omega arith, omega arith, omega arith))));
         }
 
-
-
-
 pub flat_is_laid : (p : Prog) (plan : Plan) (limit : ℕ) → IsWellFormed p → FitsFlat p plan limit → IsLaid p limit (layout_of p plan limit)
 flat_is_laid p plan limit well fits =
     subst (λ q. IsLaid p limit (layout_of p q limit)) (sym fits.planned) (laid p well limit (subst (λ (q : Plan). q.end ≤ STACK_TOP - limit) fits.planned fits.below))

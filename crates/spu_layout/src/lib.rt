@@ -2,7 +2,7 @@
 #![tactic(auto)]
 
 pub mod constants;
-mod layout;
 pub mod laws;
+mod layout;
 
 pub use layout::{Areas, Layout, Span, lay_out, section_sizes};

@@ -58,7 +58,10 @@ fn linked(alloc: Global, words: u32) -> Result<Linked, LinkFault> {
 #[test]
 fn links_16384_words(rt: HostRuntime) -> Result<(), Fail> {
     let Linked {
-        exec, file, layout, ..
+        exec,
+        file,
+        layout,
+        ..
     } = linked(rt.alloc(), 16_384).ok().ok_or("linked")?;
     assert_eq!(rt; exec.entry, 144);
     let areas = layout.areas();

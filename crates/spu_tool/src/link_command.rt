@@ -48,9 +48,12 @@ fn summary(
     let mut text = Seq::copied(alloc, b"image flat\n")?;
     text.extend(count_line(alloc, "functions", functions as u64)?.as_bytes())?;
     text.extend(share_line(alloc, "stack", u64::from(need), u64::from(limit))?.as_bytes())?;
-    text.extend(
-        share_line(alloc, "top", u64::from(top), u64::from(STACK_TOP - limit))?.as_bytes(),
-    )?;
+    text.extend(share_line(
+        alloc,
+        "top",
+        u64::from(top),
+        u64::from(STACK_TOP - limit),
+    )?.as_bytes())?;
     Ok(text)
 }
 

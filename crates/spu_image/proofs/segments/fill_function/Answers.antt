@@ -26,7 +26,7 @@ put_word-requires-clause-inside c =
 pub loop-i-preserved : goal.loop-i-preserved
 loop-i-preserved c =
     let more = put_more c.args.p.now c.requires.laid.well c.args.f c.args.g.now c.requires.there c.as_slice-x-items.result.now c.as_slice-x-items.ensures c.loop-i.i c.loop-i-test.true
-        (layout_in c.args.layout.now) c.requires.other no_instruction c.place_word-word.result c.place_word-word.ensures c.loop-i.sections c.loop-i.invariant in
+    (layout_in c.args.layout.now) c.requires.other no_instruction c.place_word-word.result c.place_word-word.ensures c.loop-i.sections c.loop-i.invariant in
     subst (AreFilled c.args.p.now (layout_in c.args.layout.now) c.args.f (c.loop-i.i + 1)) (sym c.put_word.ensures) more
 
 pub returns : goal.returns
