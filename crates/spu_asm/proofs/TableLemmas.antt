@@ -1,5 +1,5 @@
 -- A map's entries, seen as rows.
-use Rattle.std.proofs.Common.{◌≡◌, ℕ, suc, Bool, true, false, List, [], ◌∷◌, map, position, Option, Some, None, Bor, refl, sym, ap, ◌∙◌, inl, inr, is_some, length, true≢false, subst, ◌+◌, arith, slice_get, unwrap_or, drop, ◌≤◌}
+use Rattle.std.proofs.Common.{◌≡◌, ℕ, zero, suc, Bool, true, false, List, [], ◌∷◌, map, position, Option, Some, None, Bor, refl, sym, ap, ◌∙◌, inl, inr, is_some, length, true≢false, subst, ◌+◌, arith, slice_get, unwrap_or, drop, ◌≤◌, ◌<◌}
 use Rattle.std.specs.Prelude.{option_map}
 use Rattle.std.specs.List.{position_or_len, IsDistinct, AllByRecursion}
 use Rattle.std.proofs.Common.{drop-cons}
@@ -8,11 +8,16 @@ use Rattle.std.proofs.lemmas.List.{drop-map}
 use Rattle.std.proofs.lemmas.Option.{slice_get_within, get_or_from_slice_get}
 use Rattle.std.specs.Map.{lookup, keys_of, values_of}
 use Rattle.indexmap.specs.IndexMap.{insert_entry, set_value_at}
-use Rattle.indexmap.proofs.MapLemmas.{Found-position, Missing-position}
+use Rattle.indexmap.proofs.MapLemmas.{Found-position, Missing-position, some_index}
+use Rattle.std.proofs.lemmas.Bool.Decides.{nat_tests}
+use Rattle.spu_asm.proofs.JoinTables.{same_is}
 use Rattle.spu_asm.specs.Statements.{Name}
 use Rattle.spu_asm.specs.Histories.{same, is_among}
 use Rattle.spu_asm.specs.Standing.{Distinct}
 use Rattle.spu_asm.specs.Tables.{Rows, value_in, place_in, index_in, opened, edited, put, with_values}
+
+some_same : {A : Type 0} {x y : A} → Some x ≡ Some y → x ≡ y
+some_same {A} {x} e = ap (λ (r : Option A). unwrap_or r x) e
 
 abbrev pub Stored : Type 0 → Type 0
 Stored T = List (Bor (List ℕ) × T)
@@ -31,6 +36,11 @@ module _ {T : Type 0} where
     | inr not ↦ rw not (seen_value es n)
   ]
 
+  values_at : (es : Stored T) (i : ℕ) → slice_get (values_of es) i ≡ option_map (λ (e : Bor (List ℕ) × T). e.1) (slice_get es i)
+  values_at [] i = refl
+  values_at (e ∷ es) zero = refl
+  values_at (e ∷ es) (suc i) = values_at es i
+
   seen_position : (es : Stored T) (n : Name) → position_or_len (is_key n) (keys_of es) ≡ position_or_len (λ (e : Name × T). same n e.0) (seen es)
   seen_position [] n = refl
   seen_position (e ∷ es) n = rw (seen_position es n) refl
@@ -41,6 +51,13 @@ module _ {T : Type 0} where
 
   pub seen_place : (es : Stored T) (n : Name) → position (is_key n) (keys_of es) ≡ place_in (seen es) n
   seen_place es n = rw (seen_position es n, seen_length es) refl
+
+  -- the value at the place of a name, and of one that stands nowhere
+  pub place_value : (es : Stored T) (n : Name) (i : ℕ) → place_in (seen es) n ≡ Some i → value_in (seen es) n ≡ option_map (λ (e : Bor (List ℕ) × T). e.1) (slice_get es i)
+  place_value es n i at = sym (seen_value es n) ∙ (Found-position (is_key n) es i (seen_place es n ∙ at)).value ∙ values_at es i
+
+  pub place_nowhere : (es : Stored T) (n : Name) → place_in (seen es) n ≡ None → value_in (seen es) n ≡ None
+  place_nowhere es n at = sym (seen_value es n) ∙ (Missing-position (is_key n) es (seen_place es n ∙ at)).value
 
   pub distinct_names : (es : Stored T) → IsDistinct (λ (a b : Bor (List ℕ)). same a.now b.now) (keys_of es) → Distinct (map (λ (e : Name × T). e.0) (seen es))
   unfolding IsDistinct
@@ -104,8 +121,42 @@ module _ {T : Type 0} where
     | inr not ↦ let rest = rw not at some in rw not (ap (λ (t : Rows T). (e.0.now, e.1) ∷ t) (seen_old es n v rest))
   ]
 
-some_same : {A : Type 0} {x y : A} → Some x ≡ Some y → x ≡ y
-some_same {A} {x} e = ap (λ (r : Option A). unwrap_or r x) e
+module _ {T : Type 0} where
+  -- none is added where there is one
+  pub seen_there : (es : Stored T) (n : Name) (v : T) (i : ℕ) → place_in (seen es) n ≡ Some i → seen es ≡ opened (seen es) n v
+  seen_there es n v i at = seen_old es n v (sym (some_index (is_key n) es) ∙ ap (λ (x : Option ℕ). is_some x) (seen_place es n ∙ at))
+
+  pub seen_missing : (es : Stored T) (k : Bor (List ℕ)) (v : T) → place_in (seen es) k.now ≡ None → seen (insert_entry (λ (a b : Bor (List ℕ)). same a.now b.now) es k v) ≡ opened (seen es) k.now v
+  seen_missing es k v at = seen_new es k v (ap (λ (x : Option T). is_some x) (Missing-position (is_key k.now) es (seen_place es k.now ∙ at)).value)
+
+  among_at : (es : Stored T) (m : Name) (i : ℕ) (e : Bor (List ℕ) × T) → slice_get es i ≡ Some e → same m e.0.now ≡ true → is_among (map (λ (x : Name × T). x.0) (seen es)) m ≡ true
+  among_at [] m i e at is = absurd (let bad : None ≡ Some e = at in cc)
+  among_at (x ∷ xs) m zero e at is =
+      let here : x ≡ e = some_same at in
+      let first : same m x.0.now ≡ true = ap (λ (y : Bor (List ℕ) × T). same m y.0.now) here ∙ is in
+      rw first refl
+  among_at (x ∷ xs) m (suc i) e at is = elim (cases_Bool (same m x.0.now)) [
+    | inl first ↦ rw first refl
+    | inr not ↦ rw not (among_at xs m i e at is)
+  ]
+
+  at_place : (es : Stored T) (n : Name) (i : ℕ) (e : Bor (List ℕ) × T) → Distinct (map (λ (x : Name × T). x.0) (seen es)) → slice_get es i ≡ Some e → same n e.0.now ≡ true → position_or_len (λ (x : Name × T). same n x.0) (seen es) ≡ i
+  at_place [] n i e d at is = absurd (let bad : None ≡ Some e = at in cc)
+  at_place (x ∷ xs) n zero e d at is =
+      let here : x ≡ e = some_same at in
+      let first : same n x.0.now ≡ true = ap (λ (y : Bor (List ℕ) × T). same n y.0.now) here ∙ is in
+      rw first refl
+  at_place (x ∷ xs) n (suc i) e d at is = elim (cases_Bool (same n x.0.now)) [
+    | inl first ↦ absurd (true≢false (sym (among_at xs x.0.now i e at (ap (λ (m : Name). same m e.0.now) (sym (same_is n x.0.now first)) ∙ is)) ∙ d.0))
+    | inr not ↦ let rest = at_place xs n i e d.1 at is in rw (not, rest) (omega arith)
+  ]
+
+  -- the place of a name that stands there
+  pub is_its_place : (es : Stored T) (n : Name) (i : ℕ) (e : Bor (List ℕ) × T) → Distinct (map (λ (x : Name × T). x.0) (seen es)) → slice_get es i ≡ Some e → same n e.0.now ≡ true → Some i ≡ place_in (seen es) n
+  is_its_place es n i e d at is =
+      let here : position_or_len (λ (x : Name × T). same n x.0) (seen es) ≡ i = at_place es n i e d at is in
+      let within : i < length (seen es) = omega (arith, slice_get_within es i e at, length_seen es) in
+      rw here (grind (arith, nat_tests))
 
 module _ {T S : Type 0} (g : T → S) where
   pub value_with : (t : Rows T) (n : Name) → value_in (with_values g t) n ≡ option_map g (value_in t n)

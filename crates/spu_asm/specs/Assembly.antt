@@ -1,128 +1,77 @@
--- The object of a text, or the fault of its first faulty line, by SPU Assembly Language. The text's tokens are cut into
--- statements; those that aren't faulty make a history, and the history makes the object.
-use Rattle.std.specs.Prelude.{◌≡◌, ℕ, ◌<◌, ◌≤◌, List, [], ◌∷◌, ◌++◌, length, Option, Some, None, Result, Ok, Err}
-use Rattle.spu_text.specs.declared.lexemes.Token.{Token}
+-- The object of a text, or the fault of its first faulty line, by SPU Assembly Language. Each line is cut into statements;
+-- those that aren't faulty make a history, and the history makes the object.
+use Rattle.std.specs.Prelude.{◌≡◌, ℕ, ◌+◌, ◌<◌, ◌≤◌, ◌⊎◌, List, [], ◌∷◌, length, map, fold, Some, Result, Ok, Err}
+use Rattle.spu_word.specs.declared.limits.TheConstants.{MAX_FILE_SIZE}
 use Rattle.spu_text.specs.declared.lexemes.TextFault.{TextFault}
 use Rattle.spu_text.specs.declared.lexemes.TextFault.TheVariants as texts
 use Rattle.spu_text.specs.Texts.{lines_of}
-use Rattle.spu_text.specs.Fronts.{IsFront}
+use Rattle.spu_text.specs.Lexemes.{Lexeme, lexemes_of}
 use Rattle.spu_elf.specs.declared.objects.Object.{Object}
 use Rattle.spu_elf.specs.Validity.{IsValid}
 use Rattle.spu_asm.specs.declared.faults.AsmKind.{AsmKind}
 use Rattle.spu_asm.specs.declared.faults.AsmKind.TheVariants as asm
 use Rattle.spu_asm.specs.declared.faults.AsmFault.{AsmFault}
 use Rattle.spu_asm.specs.declared.faults.AsmFault.TheVariants as faults
-use Rattle.spu_asm.specs.declared.values.Piece.{Piece}
-use Rattle.spu_asm.specs.Cutting.{Source, ArePieces, statements_of}
-use Rattle.spu_asm.specs.StatementReading.{IsStatement}
-use Rattle.spu_asm.specs.Statements.{Stmt}
-use Rattle.spu_asm.specs.Faults.{Fault, Run, run_of, after, first_fault}
+use Rattle.spu_asm.specs.Values.{parted}
+use Rattle.spu_asm.specs.StatementReading.{statement_of}
+use Rattle.spu_asm.specs.Faults.{Fault, Run, nothing_yet, after, first_fault}
 use Rattle.spu_asm.specs.Objects.{object_of}
-use Rattle.spu_asm.specs.declared.progress.Progress.{Progress}
-use Rattle.spu_asm.specs.declared.progress.Outcome.{Outcome}
-use Rattle.spu_asm.specs.Progressing.{InRun, Finishes}
-
--- ---- statements
-
-pub record IsRead (text : List ℕ) (s : Source) (m : Stmt) : Type 0 where
-  pub pieces : List Piece
-  pub are : ArePieces text s.tokens pieces
-  pub means : IsStatement s.line pieces m
-
--- one statement for each run of tokens
-abbrev pub AreRead : List ℕ → List Source → List Stmt → Type 0
-AreRead text [] [] = Unit {0}
-AreRead text [] (m ∷ ms) = ⊥
-AreRead text (s ∷ ss) [] = ⊥
-AreRead text (s ∷ ss) (m ∷ ms) = IsRead text s m × AreRead text ss ms
-
--- the statements of tokens, in order
-abbrev pub AreStatements : List ℕ → List Token → List Stmt → Type 0
-AreStatements text ts ms = AreRead text (statements_of ts) ms
-
--- ---- lines without tokens
 
 abbrev pub fault : ℕ → AsmKind → Fault
 fault line kind = record { line = line; kind = kind }
 
--- the fault of the first line that has no tokens; its statements, and those behind it, have none
-abbrev pub token_faults : Option TextFault → List Fault
-token_faults None = []
-token_faults (Some (texts.NotAscii n)) = fault n asm.NotAscii ∷ []
-token_faults (Some (texts.LineTooLong n)) = fault n asm.LineTooLong ∷ []
-token_faults (Some (texts.BadNumber n)) = fault n asm.BadNumber ∷ []
-token_faults (Some texts.OutOfMemory) = []
+-- ---- lines
 
-abbrev pub noted : List Fault → Run → Run
-noted fs r = record r { faults = fs ++ r.faults }
+-- the fault of a line that has no lexemes
+abbrev pub noted : TextFault → Run → Run
+noted (texts.NotAscii n) r = record r { faults = fault n asm.NotAscii ∷ r.faults }
+noted (texts.LineTooLong n) r = record r { faults = fault n asm.LineTooLong ∷ r.faults }
+noted (texts.BadNumber n) r = record r { faults = fault n asm.BadNumber ∷ r.faults }
+noted texts.OutOfMemory r = r
+
+-- the statements of a line stand between `;`
+abbrev pub statements_after : ℕ → Run → List (List Lexeme) → Run
+statements_after line r ss = fold after r (map (statement_of line) ss)
+
+abbrev pub line_after : ℕ → Run → Result (List Lexeme) TextFault → Run
+line_after line r (Ok ts) = statements_after line r (parted 59 ts)
+line_after line r (Err f) = noted f r
+
+abbrev pub lines_after : ℕ → Run → List (List ℕ) → Run
+lines_after line r [] = r
+lines_after line r (l ∷ ls) = lines_after (line + 1) (line_after line r (lexemes_of line l)) ls
+
+-- what a text comes to: the history of its statements, and all its faults
+abbrev pub run_of : List ℕ → Run
+run_of text = lines_after 1 nothing_yet (lines_of text)
 
 -- ---- texts
 
--- what a text comes to: the history of its statements, and all its faults
-pub record Comes (text : List ℕ) (r : Run) : Type 0 where
-  pub tokens : List Token
-  pub stopped : Option TextFault
-  pub front : IsFront text tokens stopped
-  pub statements : List Stmt
-  pub read : AreStatements text tokens statements
-  pub is : r ≡ noted (token_faults stopped) (run_of statements)
-
-abbrev pub longest_text : ℕ
-longest_text = 4194304
-
 pub record Assembles (text : List ℕ) (o : Object) : Type 0 where
-  pub short : length text ≤ longest_text
-  pub run : Run
-  pub comes : Comes text run
-  pub clean : run.faults ≡ []
-  pub object : o ≡ object_of run.history
+  pub short : length text ≤ MAX_FILE_SIZE
+  pub clean : (run_of text).faults ≡ []
+  pub object : o ≡ object_of (run_of text).history
   pub valid : IsValid o
 
 -- A10 at line 0: the text is too long
 pub record IsTooLong (text : List ℕ) (f : Fault) : Type 0 where
-  pub long : longest_text < length text
+  pub long : MAX_FILE_SIZE < length text
   pub is : f ≡ fault 0 asm.TooLarge
 
 -- the least fault of the first faulty line
 pub record IsFaulty (text : List ℕ) (f : Fault) : Type 0 where
-  pub short : length text ≤ longest_text
-  pub run : Run
-  pub comes : Comes text run
-  pub first : first_fault run.faults ≡ Some f
+  pub short : length text ≤ MAX_FILE_SIZE
+  pub first : first_fault (run_of text).faults ≡ Some f
 
 -- A10 at the last line: the object has no file
 pub record HasNoFile (text : List ℕ) (f : Fault) : Type 0 where
-  pub short : length text ≤ longest_text
-  pub run : Run
-  pub comes : Comes text run
-  pub clean : run.faults ≡ []
-  pub invalid : IsValid (object_of run.history) → ⊥
+  pub short : length text ≤ MAX_FILE_SIZE
+  pub clean : (run_of text).faults ≡ []
+  pub invalid : IsValid (object_of (run_of text).history) → ⊥
   pub is : f ≡ fault (length (lines_of text)) asm.TooLarge
 
-pub data IsFaultOf (text : List ℕ) (f : Fault) : Type 0 where
-  too_long : IsTooLong text f → IsFaultOf text f
-  faulty : IsFaulty text f → IsFaultOf text f
-  no_file : HasNoFile text f → IsFaultOf text f
-
--- ---- what the code has on its way
-
--- the statement of a line's pieces is taken behind others
-pub record TakesOne (r : Run) (line : ℕ) (ps : List Piece) (p : Progress) : Type 0 where
-  pub statement : Stmt
-  pub means : IsStatement line ps statement
-  pub taken : InRun (after r statement) p
-
--- the statements of these tokens are taken
-pub record IsTaken (text : List ℕ) (ts : List Token) (p : Progress) : Type 0 where
-  pub statements : List Stmt
-  pub read : AreStatements text ts statements
-  pub taken : InRun (run_of statements) p
-
--- what a text comes to, at its end
-pub record ComesTo (text : List ℕ) (o : Outcome) : Type 0 where
-  pub run : Run
-  pub comes : Comes text run
-  pub finishes : Finishes run o
+abbrev pub IsFaultOf : List ℕ → Fault → Type 0
+IsFaultOf text f = IsTooLong text f ⊎ (IsFaulty text f ⊎ HasNoFile text f)
 
 -- ---- what `assemble` answers
 

@@ -1,19 +1,19 @@
 -- What directives do, by SPU Assembly Language: their names, one line each, and what each does with its operands. Operands
 -- that it doesn't take are A8.
-use Rattle.std.specs.Prelude.{ℕ, ◌^◌, ◌==◌, ◌&&◌, ◌||◌, Bool, true, false, nat_le, if◌then◌else◌, List, [], ◌∷◌, ◌++◌, take, Option, Some, None, option_map, Ok, Err, codes}
+use Rattle.std.specs.Prelude.{ℕ, ◌^◌, ◌==◌, ◌&&◌, ◌||◌, Bool, true, false, nat_le, if◌then◌else◌, List, [], ◌∷◌, ◌++◌, take, find, Option, Some, None, option_map, Ok, Err, codes}
 use Rattle.std.specs.List.{list_any}
 use Rattle.std.specs.Str.{bytes_eq}
 use Rattle.spu_elf.specs.declared.objects.SecKind.{SecKind}
 use Rattle.spu_elf.specs.declared.objects.SecKind.TheVariants as kinds
 use Rattle.spu_elf.specs.declared.objects.SymKind.{SymKind}
 use Rattle.spu_elf.specs.declared.objects.SymKind.TheVariants as symbols
-use Rattle.spu_asm.specs.Names.{is_symbol}
+use Rattle.spu_text.specs.Lexemes.{Lexeme, word, number, quoted, mark}
+use Rattle.spu_asm.specs.Names.{Name, is_symbol}
+use Rattle.spu_asm.specs.Values.{value_of, natural_of, parted}
 use Rattle.spu_asm.specs.Quotes.{text_of}
-use Rattle.spu_asm.specs.Statements.{Name, Effect, nothing, content, space, align, section, exports, may_be_common, has_kind, ends_here, has_size, common}
-use Rattle.spu_asm.specs.Contents.{Meaning, values_in}
+use Rattle.spu_asm.specs.Statements.{Effect, nothing, content, space, align, section, exports, may_be_common, has_kind, ends_here, has_size, common}
+use Rattle.spu_asm.specs.Contents.{Meaning, contents, values_of}
 use Rattle.spu_asm.specs.declared.faults.AsmKind.TheVariants.{BadDirective}
-use Rattle.spu_asm.specs.declared.values.Piece.{Piece}
-use Rattle.spu_asm.specs.declared.values.Piece.TheVariants as pieces
 use Rattle.spu_asm.specs.declared.directives.Directive.{Directive}
 use Rattle.spu_asm.specs.declared.directives.Directive.TheVariants as directive
 
@@ -60,13 +60,13 @@ of_some f (Some x) = Ok (f x)
 of_some f None = bad
 
 -- no operands
-abbrev pub alone : Effect → List Piece → Meaning
+abbrev pub alone : Effect → List Lexeme → Meaning
 alone e [] = Ok e
 alone e (t ∷ ts) = bad
 
 -- `symbol`
-abbrev pub one_symbol : List Piece → Option Name
-one_symbol (pieces.Word s ∷ []) = if is_symbol s.now then Some s.now else None
+abbrev pub one_symbol : List Lexeme → Option Name
+one_symbol (word s ∷ []) = if is_symbol s then Some s else None
 one_symbol _ = None
 
 -- `symbol,@function` or `symbol,@object`
@@ -76,39 +76,48 @@ symbol_kind w =
     else (if bytes_eq w (codes "@object") then Some symbols.Object
     else None)
 
-abbrev pub type_of : List Piece → Meaning
-type_of (pieces.Word s ∷ pieces.Mark c ∷ pieces.Word k ∷ []) = if c == 44 && is_symbol s.now then of_some (has_kind s.now) (symbol_kind k.now) else bad
+abbrev pub type_of : List Lexeme → Meaning
+type_of (word s ∷ mark c ∷ word k ∷ []) = if c == 44 && is_symbol s then of_some (has_kind s) (symbol_kind k) else bad
 type_of _ = bad
 
--- `symbol,number` or `symbol,.-symbol`
-abbrev pub size_of : List Piece → Meaning
-size_of (pieces.Word s ∷ pieces.Mark c ∷ pieces.Number n ∷ []) = only_if (c == 44 && is_symbol s.now) (has_size s.now n)
-size_of (pieces.Word s ∷ pieces.Mark c ∷ pieces.Word h ∷ pieces.Mark m ∷ pieces.Word t ∷ []) =
-    only_if (c == 44 && m == 45 && is_symbol s.now && bytes_eq h.now (codes ".") && bytes_eq s.now t.now) (ends_here s.now)
+-- a number from 0 on
+abbrev pub of_number : (ℕ → Meaning) → Option ℕ → Meaning
+of_number f (Some n) = f n
+of_number f None = bad
+
+abbrev pub one_number : (ℕ → Meaning) → List Lexeme → Meaning
+one_number f ts = of_number f (natural_of (value_of ts))
+
+-- `.-symbol`, or a number
+abbrev pub size_by : Name → List Lexeme → Meaning
+size_by s (word h ∷ mark m ∷ word t ∷ []) = only_if (m == 45 && bytes_eq h (codes ".") && bytes_eq s t) (ends_here s)
+size_by s ts = one_number (λ n. Ok (has_size s n)) ts
+
+abbrev pub size_of : List Lexeme → Meaning
+size_of (word s ∷ mark c ∷ ts) = if c == 44 && is_symbol s then size_by s ts else bad
 size_of _ = bad
 
--- a number from 0 to 7
-abbrev pub align_of : List Piece → Meaning
-align_of (pieces.Number n ∷ []) = only_if (nat_le n 7) (align (2 ^ n))
-align_of _ = bad
+abbrev pub align_by : ℕ → Meaning
+align_by n = only_if (nat_le n 7) (align (2 ^ n))
 
--- a number
-abbrev pub space_of : List Piece → Meaning
-space_of (pieces.Number n ∷ []) = Ok (space n)
-space_of _ = bad
+abbrev pub space_by : ℕ → Meaning
+space_by n = Ok (space n)
 
 unfoldable pub is_step : ℕ → Bool
 is_step a = a == 1 || a == 2 || a == 4 || a == 8 || a == 16 || a == 32 || a == 64 || a == 128
 
--- `symbol,number,step`
-abbrev pub common_of : List Piece → Meaning
-common_of (pieces.Word s ∷ pieces.Mark c ∷ pieces.Number n ∷ pieces.Mark d ∷ pieces.Number a ∷ []) =
-    only_if (c == 44 && d == 44 && is_symbol s.now && is_step a) (common s.now n a)
+-- a size and a step
+abbrev pub common_by : Name → List (List Lexeme) → Meaning
+common_by s (n ∷ a ∷ []) = one_number (λ size. one_number (λ step. only_if (is_step step) (common s size step)) a) n
+common_by s _ = bad
+
+abbrev pub common_of : List Lexeme → Meaning
+common_of (word s ∷ mark c ∷ ts) = if c == 44 && is_symbol s then common_by s (parted 44 ts) else bad
 common_of _ = bad
 
 -- quoted text, and these bytes behind it
-abbrev pub one_text : List ℕ → List Piece → Meaning
-one_text end (pieces.Quoted q ∷ []) = of_some (λ (t : List ℕ). content (t ++ end) ([])) (text_of q.now)
+abbrev pub one_text : List ℕ → List Lexeme → Meaning
+one_text end (quoted q ∷ []) = of_some (λ (t : List ℕ). content (t ++ end) ([])) (text_of q)
 one_text end _ = bad
 
 -- ---- sections
@@ -128,10 +137,10 @@ kind_by_flags f =
     else kinds.Const)
 
 -- whether `@nobits` is among the words and numbers behind the flags, each after a comma
-abbrev pub is_nobits : List Piece → Option Bool
+abbrev pub is_nobits : List Lexeme → Option Bool
 is_nobits [] = Some false
-is_nobits (pieces.Mark c ∷ pieces.Word w ∷ ts) = if c == 44 then option_map (λ (b : Bool). bytes_eq w.now (codes "@nobits") || b) (is_nobits ts) else None
-is_nobits (pieces.Mark c ∷ pieces.Number n ∷ ts) = if c == 44 then is_nobits ts else None
+is_nobits (mark c ∷ word w ∷ ts) = if c == 44 then option_map (λ (b : Bool). bytes_eq w (codes "@nobits") || b) (is_nobits ts) else None
+is_nobits (mark c ∷ number n ∷ ts) = if c == 44 then is_nobits ts else None
 is_nobits _ = None
 
 abbrev pub flagged : Name → Option Bool → Option (List ℕ) → Meaning
@@ -140,14 +149,14 @@ flagged s (Some false) (Some f) = Ok (section s (kind_by_flags f))
 flagged s (Some b) None = bad
 flagged s None f = bad
 
-abbrev pub section_of : List Piece → Meaning
-section_of (pieces.Word s ∷ []) = Ok (section s.now (kind_by_name s.now))
-section_of (pieces.Word s ∷ pieces.Mark c ∷ pieces.Quoted f ∷ ts) = if c == 44 then flagged s.now (is_nobits ts) (text_of f.now) else bad
+abbrev pub section_of : List Lexeme → Meaning
+section_of (word s ∷ []) = Ok (section s (kind_by_name s))
+section_of (word s ∷ mark c ∷ quoted f ∷ ts) = if c == 44 then flagged s (is_nobits ts) (text_of f) else bad
 section_of _ = bad
 
 -- ---- directives
 
-unfoldable pub meaning_of : Directive → List Piece → Meaning
+unfoldable pub meaning_of : Directive → List Lexeme → Meaning
 meaning_of directive.Text ts = alone (section (codes ".text") kinds.Code) ts
 meaning_of directive.Data ts = alone (section (codes ".data") kinds.Vars) ts
 meaning_of directive.Bss ts = alone (section (codes ".bss") kinds.Zero) ts
@@ -156,23 +165,33 @@ meaning_of directive.Global ts = of_some exports (one_symbol ts)
 meaning_of directive.Globl ts = of_some exports (one_symbol ts)
 meaning_of directive.Type ts = type_of ts
 meaning_of directive.Size ts = size_of ts
-meaning_of directive.Align ts = align_of ts
-meaning_of directive.P2align ts = align_of ts
-meaning_of directive.Byte ts = values_in 1 ts
-meaning_of directive.Hword ts = values_in 2 ts
-meaning_of directive.Short ts = values_in 2 ts
-meaning_of directive.Word ts = values_in 4 ts
-meaning_of directive.Long ts = values_in 4 ts
-meaning_of directive.Int ts = values_in 4 ts
-meaning_of directive.Quad ts = values_in 8 ts
-meaning_of directive.Octa ts = values_in 16 ts
+meaning_of directive.Align ts = one_number align_by ts
+meaning_of directive.P2align ts = one_number align_by ts
+meaning_of directive.Byte ts = contents (values_of 1 ts)
+meaning_of directive.Hword ts = contents (values_of 2 ts)
+meaning_of directive.Short ts = contents (values_of 2 ts)
+meaning_of directive.Word ts = contents (values_of 4 ts)
+meaning_of directive.Long ts = contents (values_of 4 ts)
+meaning_of directive.Int ts = contents (values_of 4 ts)
+meaning_of directive.Quad ts = contents (values_of 8 ts)
+meaning_of directive.Octa ts = contents (values_of 16 ts)
 meaning_of directive.Ascii ts = one_text ([]) ts
 meaning_of directive.Asciz ts = one_text (0 ∷ []) ts
 meaning_of directive.String ts = one_text (0 ∷ []) ts
-meaning_of directive.Space ts = space_of ts
-meaning_of directive.Skip ts = space_of ts
-meaning_of directive.Zero ts = space_of ts
+meaning_of directive.Space ts = one_number space_by ts
+meaning_of directive.Skip ts = one_number space_by ts
+meaning_of directive.Zero ts = one_number space_by ts
 meaning_of directive.Local ts = of_some may_be_common (one_symbol ts)
 meaning_of directive.Comm ts = common_of ts
 meaning_of directive.File ts = Ok nothing
 meaning_of directive.Ident ts = Ok nothing
+
+abbrev pub all_directives : List Directive
+all_directives =
+    directive.Text ∷ directive.Data ∷ directive.Bss ∷ directive.Section ∷ directive.Global ∷ directive.Globl ∷ directive.Type
+    ∷ directive.Size ∷ directive.Align ∷ directive.P2align ∷ directive.Byte ∷ directive.Hword ∷ directive.Short ∷ directive.Word
+    ∷ directive.Long ∷ directive.Int ∷ directive.Quad ∷ directive.Octa ∷ directive.Ascii ∷ directive.Asciz ∷ directive.String
+    ∷ directive.Space ∷ directive.Skip ∷ directive.Zero ∷ directive.Local ∷ directive.Comm ∷ directive.File ∷ directive.Ident ∷ []
+
+unfoldable pub directive_of : Name → Option Directive
+directive_of w = find (λ (d : Directive). bytes_eq (name_of d) w) all_directives

@@ -1,5 +1,5 @@
 -- The faults of statements behind others, by number, and the first faulty line.
-use Rattle.std.specs.Prelude.{ℕ, ◌+◌, ◌%◌, ◌==◌, ◌&&◌, ◌||◌, Bool, true, false, not, nat_lt, if◌then◌else◌, List, [], ◌∷◌, length, fold, Option, Some, None, is_some, is_none, Result, Ok, Err}
+use Rattle.std.specs.Prelude.{ℕ, ◌+◌, ◌%◌, ◌==◌, ◌&&◌, ◌||◌, Bool, true, false, not, nat_lt, if◌then◌else◌, List, [], ◌∷◌, length, Option, Some, None, is_some, is_none, Result, Ok, Err}
 use Rattle.spu_elf.specs.declared.objects.SecKind.{SecKind}
 use Rattle.spu_elf.specs.declared.objects.SecKind.TheVariants as kinds
 use Rattle.spu_asm.specs.declared.faults.AsmKind.{AsmKind}
@@ -114,8 +114,8 @@ judged r s (Some k) = record r { faults = record { line = s.line; kind = k } ∷
 abbrev pub after : Run → Stmt → Run
 after r s = judged r s (fault_in r.history s)
 
-abbrev pub run_of : List Stmt → Run
-run_of ss = fold after (record { history = []; faults = [] }) ss
+abbrev pub nothing_yet : Run
+nothing_yet = record { history = []; faults = [] }
 
 -- ---- the first faulty line
 

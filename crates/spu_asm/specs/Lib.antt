@@ -1,8 +1,9 @@
 pub mod Numerals
 pub mod Names
 pub mod Values
-pub mod Operations
-pub mod Reading
+pub mod Parts
+pub mod Operands
+pub mod Encoding
 pub mod Statements
 pub mod Histories
 pub mod Faults
@@ -16,6 +17,5 @@ pub mod Quotes
 pub mod Contents
 pub mod Directives
 pub mod StatementReading
-pub mod Cutting
 pub mod Assembly
 pub mod Progressing

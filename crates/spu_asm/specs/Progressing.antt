@@ -29,3 +29,9 @@ abbrev pub Finishes : Run → Outcome → Type 0
 Finishes r (outcomes.Faulty f) = first_fault r.faults ≡ Some (fault_of f)
 Finishes r (outcomes.Object o) = (r.faults ≡ []) × (o ≡ object_of r.history)
 Finishes r outcomes.NoFile = (r.faults ≡ []) × (IsValid (object_of r.history) → ⊥)
+
+-- the code has taken so much of a text that the rest leads to what the text comes to
+pub record Leads (r : Run) (f : Run → Run) (p : Progress) : Type 0 where
+  pub now : Run
+  pub taken : InRun now p
+  pub leads : f now ≡ r

@@ -1,21 +1,21 @@
 -- Statements as definitions see them: the labels in front, and what the statement does behind them.
-use Rattle.std.specs.Prelude.{ℕ, List, [], ◌∷◌, ◌++◌, map, Option, Some, None, Result, Ok, Err, ℤ}
+use Rattle.std.specs.Prelude.{ℕ, List, [], ◌∷◌, ◌++◌, map, Option, Some, None, option_map, Result, Ok, Err, ℤ}
 use Rattle.std.specs.Borrow.{Bor}
 use Rattle.spu_elf.specs.declared.objects.SecKind.{SecKind}
 use Rattle.spu_elf.specs.declared.objects.SymKind.{SymKind}
-use Rattle.spu_asm.specs.Names.{unsuffixed}
+use Rattle.spu_reloc.specs.declared.field.RelocKind.{RelocKind}
+use Rattle.spu_reloc.specs.declared.field.RelocKind.TheVariants.{Addr32}
+use Rattle.spu_reloc.specs.Fields.{number_of}
 use Rattle.spu_asm.specs.declared.faults.AsmKind.{AsmKind}
-use Rattle.spu_asm.specs.declared.reading.Target.{Target}
-use Rattle.spu_asm.specs.declared.reading.Reference.TheVariants as refers
+use Rattle.spu_asm.specs.declared.operands.Target.{Target as CodeTarget}
 use Rattle.spu_asm.specs.declared.statements.AddressValue.{AddressValue}
 use Rattle.spu_asm.specs.declared.statements.Content.{Content}
-use Rattle.spu_asm.specs.declared.statements.Coded.{Coded}
+use Rattle.spu_asm.specs.declared.statements.Instruction.{Instruction}
 use Rattle.spu_asm.specs.declared.statements.Action.{Action}
 use Rattle.spu_asm.specs.declared.statements.Action.TheVariants as action
 use Rattle.spu_asm.specs.declared.statements.Statement.{Statement}
-
-abbrev pub Name : Type 0
-Name = List ℕ
+pub use Rattle.spu_asm.specs.Names.{Name}
+use Rattle.spu_asm.specs.Operands.{Target, target_in}
 
 -- A relocation that a statement makes: where its word begins among the statement's bytes, its number in the SPU ABI, the
 -- symbol and the addend.
@@ -52,47 +52,31 @@ pub record Stmt : Type 0 where
   -- what it does, or the least fault that its tokens have by themselves
   pub effect : Result Effect AsmKind
 
+-- the relocation that a symbol makes in an instruction whose field has this kind; only data has `Addr32`
+abbrev pub relocations_by : RelocKind → Option Target → List Relocation
+relocations_by Addr32 t = []
+relocations_by k None = []
+relocations_by k (Some t) = record { offset = 0; number = number_of k; name = t.name; addend = t.addend } ∷ []
+
 -- ---- the code's statements
-
--- the number of the relocation that a symbol makes, and its name without a suffix; a hint makes none
-unfoldable pub relocation_of : Target → List Relocation
-relocation_of t = elim t.reference [
-  | refers.Relative ↦ record { offset = 0; number = 7; name = t.word.now; addend = t.addend } ∷ []
-  | refers.Absolute ↦ record { offset = 0; number = 2; name = t.word.now; addend = t.addend } ∷ []
-  | refers.Address ↦ record { offset = 0; number = 5; name = t.word.now; addend = t.addend } ∷ []
-  | refers.High ↦ record { offset = 0; number = 3; name = unsuffixed t.word.now; addend = t.addend } ∷ []
-  | refers.Low ↦ record { offset = 0; number = 4; name = unsuffixed t.word.now; addend = t.addend } ∷ []
-  | refers.Hint ↦ []
-]
-
-abbrev pub target_name : Target → Name
-target_name t = elim t.reference [
-  | refers.Relative ↦ t.word.now
-  | refers.Absolute ↦ t.word.now
-  | refers.Address ↦ t.word.now
-  | refers.High ↦ unsuffixed t.word.now
-  | refers.Low ↦ unsuffixed t.word.now
-  | refers.Hint ↦ t.word.now
-]
 
 abbrev pub listed : {A : Type 0} → Option A → List A
 listed None = []
 listed (Some x) = x ∷ []
 
-abbrev pub relocations_of : Option Target → List Relocation
-relocations_of None = []
-relocations_of (Some t) = relocation_of t
+abbrev pub target_name : CodeTarget → Name
+target_name t = t.name.now
 
 -- the symbols in an instruction's operands
-abbrev pub instruction_names : Coded → List Name
+abbrev pub instruction_names : Instruction → List Name
 instruction_names c = map (λ (w : Bor (List ℕ)). w.now) (listed c.place) ++ map target_name (listed c.target)
 
-abbrev pub instruction_of : Coded → Effect
-instruction_of c = instruction c.word (instruction_names c) (relocations_of c.target)
+abbrev pub instruction_of : Instruction → Effect
+instruction_of c = instruction c.word (instruction_names c) (relocations_by c.kind (option_map target_in c.target))
 
 -- an address among the values of a directive takes four bytes
 abbrev pub address_relocation : AddressValue → Relocation
-address_relocation a = record { offset = a.offset; number = 6; name = a.name.now; addend = a.addend }
+address_relocation a = record { offset = a.offset; number = number_of Addr32; name = a.name.now; addend = a.addend }
 
 abbrev pub content_of : Content → Effect
 content_of c = content c.bytes (map address_relocation c.addresses.items)

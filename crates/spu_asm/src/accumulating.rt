@@ -377,13 +377,14 @@ impl<'a> Assembler<'a> {
     fn define(&mut self, labels: &[&'a [u8]]) -> Result<(), OutOfMemory>
         ensures { OnOk result (cursor_of self.new ≡ with_labels (map (λ w. w.now) labels.now) (cursor_of self.old)) }
     {
+        if labels.is_empty() {
+            return Ok(());
+        }
         let spot = Spot {
             section: self.current,
             offset: self.here(),
         };
-        if !labels.is_empty() {
-            self.sections.make(self.alloc, self.current, SecKind::Code)?;
-        }
+        self.sections.make(self.alloc, self.current, SecKind::Code)?;
         self.symbols.define_all(labels, spot)
     }
 

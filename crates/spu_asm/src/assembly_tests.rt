@@ -19,9 +19,9 @@ fn object(alloc: Global, text: &[u8]) -> Result<Object, Fail> {
     Ok(made)
 }
 
-/// Whether each of the texts has this fault, in this line.
-fn are_refused(alloc: Global, kind: AsmKind, line: u32, texts: &[&[u8]]) -> bool {
-    for text in texts {
+/// Whether each of the texts, between bytes 0, has this fault in this line.
+fn are_refused(alloc: Global, kind: AsmKind, line: u32, texts: &[u8]) -> bool {
+    for text in texts.split(|b| *b == 0) {
         if fault(alloc, text) != Some((kind, line)) {
             return false;
         }
@@ -29,62 +29,49 @@ fn are_refused(alloc: Global, kind: AsmKind, line: u32, texts: &[&[u8]]) -> bool
     true
 }
 
+const UNKNOWN: &[u8] = b"foo $1\0foo\n\x80\0a: foo; a: nop\0$3: nop\0.";
+
+const OPERANDS: &[u8] =
+    b"br 4\0il $3,99999,1\0ila $3,.\0ilhu $3,$4@h\0ilhu $3,.@h\0lqd $3,4\0hbr .,$3";
+
+const RANGES: &[u8] =
+    b"il $3,40000\0nop 128\0nop -1\0.byte 256\0.byte 256,,\0.byte x,256\0stqd $3,8($1)";
+
 #[test]
 fn tokens_and_operands_refuse(rt: HostRuntime) -> Result<(), Fail> {
     let alloc = rt.alloc();
-    let unknown: [&[u8]; 4] = [b"foo $1", b"foo\n\x80", b"a: foo; a: nop", b"$3: nop"];
-    assert!(rt; are_refused(alloc, AsmKind::UnknownMnemonic, 1, &unknown));
-    let operands: [&[u8]; 3] = [b"br 4", b"il $3,99999,1", b"ila $3,."];
-    assert!(rt; are_refused(alloc, AsmKind::BadOperand, 1, &operands));
-    let ranges: [&[u8]; 4] = [b"il $3,40000", b"nop 128", b".byte 256", b".byte 256,,"];
-    assert!(rt; are_refused(alloc, AsmKind::Range, 1, &ranges));
-    assert!(rt; are_refused(alloc, AsmKind::BadNumber, 1, &[b"il $3,12x"]));
-    assert!(rt; are_refused(alloc, AsmKind::NotAscii, 2, &[b"nop\n\x80"]));
-    assert!(rt; are_refused(alloc, AsmKind::LineTooLong, 1, &[&[b' '; 513]]));
+    assert!(rt; are_refused(alloc, AsmKind::UnknownMnemonic, 1, UNKNOWN));
+    assert!(rt; are_refused(alloc, AsmKind::BadOperand, 1, OPERANDS));
+    assert!(rt; are_refused(alloc, AsmKind::Range, 1, RANGES));
+    assert!(rt; are_refused(alloc, AsmKind::BadNumber, 1, b"il $3,12x"));
+    assert!(rt; are_refused(alloc, AsmKind::NotAscii, 2, b"nop\n\x80"));
+    assert!(rt; are_refused(alloc, AsmKind::LineTooLong, 1, &[b' '; 513]));
     assert_eq!(rt; object(alloc, &[b' '; 512])?.sections.len(), 0);
     Ok(())
 }
 
-#[test]
-fn labels_and_sizes_refuse(rt: HostRuntime) -> Result<(), Fail> {
-    let alloc = rt.alloc();
-    let labels: [&[u8]; 2] = [b"a:\na:\n", b"x:\n.local x; .comm x,4,4"];
-    assert!(rt; are_refused(alloc, AsmKind::DuplicateLabel, 2, &labels));
-    assert!(rt; are_refused(alloc, AsmKind::DuplicateLabel, 1, &[b"a: a: nop"]));
-    let large = b".data\n.space 262145".as_slice();
-    assert!(rt; are_refused(alloc, AsmKind::SectionTooLarge, 2, &[large]));
-    let past = b"x: nop\n.size x,5\n#".as_slice();
-    assert!(rt; are_refused(alloc, AsmKind::TooLarge, 3, &[past]));
-    assert!(rt; are_refused(alloc, AsmKind::TooLarge, 1, &[b".section .eh_frame"]));
-    Ok(())
-}
+const DIRECTIVES: &[u8] =
+    b".comm x,4,16\0.comm x,4,12\0.foo\0.align 8\0.space -1\0.byte x\0.byte 256 x\0.word x+4294967296 y\0.global x,y\0.ascii \"a\" \"b\"\0.type x,@tls\0.size x,.-x\0.section a,aw\0.local x,y\0.file \"a\0.file \"a\\q\"";
+
+const SECTIONS: &[u8] = b"x:\n.data; .size x,.-x\0.bss\n.word 1\0.data\nnop\0.byte 1\n.align 3";
 
 #[test]
-fn directives_refuse(rt: HostRuntime) -> Result<(), Fail> {
-    let alone: [&[u8]; 14] = [
-        b".comm x,4,16",
-        b".comm x,4,12",
-        b".foo",
-        b".align 8",
-        b".space -1",
-        b".byte x",
-        b".global x,y",
-        b".ascii \"a\" \"b\"",
-        b".type x,@tls",
-        b".size x,.-x",
-        b".section a,aw",
-        b".local x,y",
-        b".file \"a",
-        b".file \"a\\q\"",
-    ];
-    assert!(rt; are_refused(rt.alloc(), AsmKind::BadDirective, 1, &alone));
-    let second: [&[u8]; 4] = [
-        b"x:\n.data; .size x,.-x",
-        b".bss\n.word 1",
-        b".data\nnop",
-        b".byte 1\n.align 3",
-    ];
-    assert!(rt; are_refused(rt.alloc(), AsmKind::BadDirective, 2, &second));
+fn statements_refuse(rt: HostRuntime) -> Result<(), Fail> {
+    let alloc = rt.alloc();
+    assert!(rt; are_refused(alloc, AsmKind::BadDirective, 1, DIRECTIVES));
+    assert!(rt; are_refused(alloc, AsmKind::BadDirective, 2, SECTIONS));
+    assert!(rt;
+        are_refused(
+            alloc,
+            AsmKind::DuplicateLabel,
+            2,
+            b"a:\na:\n\0x:\n.local x; .comm x,4,4"
+        )
+    );
+    assert!(rt; are_refused(alloc, AsmKind::DuplicateLabel, 1, b"a: a: nop"));
+    assert!(rt; are_refused(alloc, AsmKind::SectionTooLarge, 2, b".data\n.space 262145"));
+    assert!(rt; are_refused(alloc, AsmKind::TooLarge, 3, b"x: nop\n.size x,5\n#"));
+    assert!(rt; are_refused(alloc, AsmKind::TooLarge, 1, b".section .eh_frame"));
     Ok(())
 }
 
@@ -117,6 +104,7 @@ fn a_common_symbol(rt: HostRuntime) -> Result<(), Fail> {
     let symbol = made.symbols.get(0).ok_or("a symbol")?;
     assert_eq!(rt; (symbol.value, symbol.size), (0, 4));
     assert_eq!(rt; (symbol.global, symbol.place), (false, SymPlace::Inside(0)));
-    assert_eq!(rt; object(rt.alloc(), b"")?.sections.len(), 0);
+    let zeros = b"x: .align -0; .space -0; nop -0; .size x,-0; .local y; .comm y,-0,4".as_slice();
+    assert_eq!(rt; object(rt.alloc(), zeros)?.sections.len(), 2);
     Ok(())
 }

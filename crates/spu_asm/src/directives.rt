@@ -2,19 +2,23 @@
 
 ghost use Rattle.std.specs.Prelude.{◌≡◌, ◌<◌, ◌≤◌, ◌==◌, true, IfSome, IfNone, Ok, option_map};
 ghost use Rattle.std.specs.List.{list_any};
-ghost use Rattle.spu_asm.specs.Directives.{name_of, alone, of_some, meaning_of, is_step, kind_by_name, kind_by_flags, symbol_kind, is_nobits, flagged, section_of, one_symbol, type_of, size_of, align_of, space_of, common_of, one_text};
-ghost use Rattle.spu_asm.specs.Statements.{section, exports, may_be_common};
-ghost use Rattle.spu_asm.specs.Contents.{Gives, values_in};
+ghost use Rattle.spu_asm.specs.Values.{natural_of, value_of, parted};
+ghost use Rattle.spu_asm.specs.Parts.{lexemes};
+ghost use Rattle.spu_asm.specs.Directives.{name_of, of_number, only_if, directive_of, alone, of_some, meaning_of, is_step, kind_by_name, kind_by_flags, symbol_kind, is_nobits, flagged, section_of, one_symbol, type_of, size_by, size_of, one_number, align_by, space_by, common_by, common_of, one_text};
+ghost use Rattle.spu_asm.specs.Statements.{section, exports, may_be_common, common};
+ghost use Rattle.spu_asm.specs.Contents.{Gives, contents, values_of};
 ghost use Rattle.spu_asm.specs.Quotes.{text_of};
 ghost use Rattle.spu_asm.specs.declared.directives.Directive.{Directive};
 
 use crate::contents::values;
 use crate::names::is_symbol;
+use crate::parts::first_operand;
 use crate::quotes::text_of;
 use crate::refusals::{BAD_DIRECTIVE, Refusal};
 use crate::statements::{Action, Content};
-use crate::values::Piece;
+use crate::values::{Value, value_of};
 use spu_elf::{SecKind, SymKind};
+use spu_text::Piece;
 use std::alloc::Global;
 
 /// A directive, by SPU Assembly Language.
@@ -51,7 +55,7 @@ pub enum Directive {
 }
 
 /// The directive of this name.
-pub fn directive_named(word: &[u8]) -> Option<Directive>
+fn named(word: &[u8]) -> Option<Directive>
     ensures some { IfSome result (λ d. name_of d ≡ word.now) }
     ensures none { IfNone result ((d : Directive) → name_of d ≡ word.now → ⊥) }
 {
@@ -88,10 +92,17 @@ pub fn directive_named(word: &[u8]) -> Option<Directive>
     }
 }
 
+/// The directive of this name.
+pub fn directive_of(word: &[u8]) -> Option<Directive>
+    ensures { result ≡ directive_of word.now }
+{
+    named(word)
+}
+
 /// A section, where no operand stands.
 #[tactic(auto, unfolding(crate::specs::Statements::effect_of))]
 fn known_section<'a>(name: &'a [u8], kind: SecKind, pieces: &[Piece]) -> Result<Action<'a>, Refusal>
-    ensures { Gives result (alone (section name.now kind) pieces.now) }
+    ensures { Gives result (alone (section name.now kind) (lexemes pieces.now)) }
 {
     if pieces.is_empty() {
         Ok(Action::Section { name, kind })
@@ -138,7 +149,7 @@ fn kind_by_flags(flags: &[u8]) -> SecKind
 
 /// Whether `@nobits` is among words and numbers that each stand behind a comma; None where they don't.
 fn is_nobits(pieces: &[Piece]) -> Option<bool>
-    ensures { result ≡ is_nobits pieces.now }
+    ensures { result ≡ is_nobits (lexemes pieces.now) }
 {
     match pieces {
         [] => Some(false),
@@ -159,7 +170,7 @@ fn flagged<'a>(
     quoted: &[u8],
     more: &[Piece],
 ) -> Result<Action<'a>, Refusal>
-    ensures { Gives result (flagged name.now (is_nobits more.now) (text_of quoted.now)) }
+    ensures { Gives result (flagged name.now (is_nobits (lexemes more.now)) (text_of quoted.now)) }
 {
     let (Some(flags), Some(nobits)) = (text_of(alloc, quoted)?, is_nobits(more)) else {
         return Err(BAD_DIRECTIVE);
@@ -175,7 +186,7 @@ fn flagged<'a>(
 /// A section with or without flags.
 #[tactic(auto, unfolding(crate::specs::Statements::effect_of))]
 fn section<'a>(alloc: Global, pieces: &[Piece<'a>]) -> Result<Action<'a>, Refusal>
-    ensures { Gives result (section_of pieces.now) }
+    ensures { Gives result (section_of (lexemes pieces.now)) }
 {
     match pieces {
         [Piece::Word(name)] => Ok(Action::Section {
@@ -194,7 +205,7 @@ fn section<'a>(alloc: Global, pieces: &[Piece<'a>]) -> Result<Action<'a>, Refusa
 
 /// The one operand, which is a symbol.
 fn one_symbol<'a>(pieces: &[Piece<'a>]) -> Option<&'a [u8]>
-    ensures { option_map (λ name. name.now) result ≡ one_symbol pieces.now }
+    ensures { option_map (λ name. name.now) result ≡ one_symbol (lexemes pieces.now) }
 {
     match pieces {
         [Piece::Word(name)] if is_symbol(name) => Some(*name),
@@ -219,7 +230,7 @@ fn symbol_kind(word: &[u8]) -> Option<SymKind>
 /// The kind of a symbol.
 #[tactic(auto, unfolding(crate::specs::Statements::effect_of))]
 fn type_of<'a>(pieces: &[Piece<'a>]) -> Result<Action<'a>, Refusal>
-    ensures { Gives result (type_of pieces.now) }
+    ensures { Gives result (type_of (lexemes pieces.now)) }
 {
     match pieces {
         [Piece::Word(name), Piece::Mark(b','), Piece::Word(word)] if is_symbol(name) =>
@@ -231,27 +242,45 @@ fn type_of<'a>(pieces: &[Piece<'a>]) -> Result<Action<'a>, Refusal>
     }
 }
 
-/// The size of a symbol.
+/// The one operand, which is a number from 0 on.
+fn natural(pieces: &[Piece]) -> Option<u128>
+    ensures { result ≡ natural_of (value_of (lexemes pieces.now)) }
+{
+    match value_of(pieces) {
+        Some(Value::Number(number)) => number.natural(),
+        Some(Value::Here(_)) | Some(Value::Symbol(_, _)) | None => None,
+    }
+}
+
+/// The size of a symbol, as it is written behind its name.
 #[tactic(auto, unfolding(crate::specs::Statements::effect_of))]
-fn size_of<'a>(pieces: &[Piece<'a>]) -> Result<Action<'a>, Refusal>
-    ensures { Gives result (size_of pieces.now) }
+fn size_by<'a>(name: &'a [u8], pieces: &[Piece<'a>]) -> Result<Action<'a>, Refusal>
+    ensures { Gives result (size_by name.now (lexemes pieces.now)) }
 {
     match pieces {
-        [Piece::Word(name), Piece::Mark(b','), Piece::Number(size)] if is_symbol(name) => Ok(
-            Action::Size {
-                name: *name,
-                size: *size,
-            },
+        [Piece::Word(here), Piece::Mark(mark), Piece::Word(start)] => if *mark == b'-'
+            && *here == b".".as_slice()
+            && name == *start
+        {
+            Ok(Action::EndsHere(name))
+        } else {
+            Err(BAD_DIRECTIVE)
+        },
+        _ => match natural(pieces) {
+            Some(size) => Ok(Action::Size { name, size }),
+            None => Err(BAD_DIRECTIVE),
+        },
+    }
+}
+
+/// The size of a symbol.
+fn size_of<'a>(pieces: &[Piece<'a>]) -> Result<Action<'a>, Refusal>
+    ensures { Gives result (size_of (lexemes pieces.now)) }
+{
+    match pieces {
+        [Piece::Word(name), Piece::Mark(b','), size @ ..] if is_symbol(name) => size_by(
+            *name, size,
         ),
-        [
-            Piece::Word(name),
-            Piece::Mark(b','),
-            Piece::Word(here),
-            Piece::Mark(b'-'),
-            Piece::Word(start),
-        ] if is_symbol(name) && *here == b".".as_slice() && *name == *start => Ok(Action::EndsHere(
-            *name,
-        )),
         _ => Err(BAD_DIRECTIVE),
     }
 }
@@ -259,22 +288,22 @@ fn size_of<'a>(pieces: &[Piece<'a>]) -> Result<Action<'a>, Refusal>
 /// Padding to a power of two.
 #[tactic(auto, unfolding(crate::specs::Statements::effect_of))]
 fn align_of<'a>(pieces: &[Piece<'a>]) -> Result<Action<'a>, Refusal>
-    ensures { Gives result (align_of pieces.now) }
+    ensures { Gives result (one_number align_by (lexemes pieces.now)) }
 {
-    match pieces {
-        [Piece::Number(n)] if *n <= 7 => Ok(Action::Align(1 << *n as u32)),
-        _ => Err(BAD_DIRECTIVE),
+    match natural(pieces) {
+        Some(n) if n <= 7 => Ok(Action::Align(1 << n as u32)),
+        Some(_) | None => Err(BAD_DIRECTIVE),
     }
 }
 
 /// Zero bytes.
 #[tactic(auto, unfolding(crate::specs::Statements::effect_of))]
 fn space_of<'a>(pieces: &[Piece<'a>]) -> Result<Action<'a>, Refusal>
-    ensures { Gives result (space_of pieces.now) }
+    ensures { Gives result (one_number space_by (lexemes pieces.now)) }
 {
-    match pieces {
-        [Piece::Number(n)] => Ok(Action::Space(*n)),
-        _ => Err(BAD_DIRECTIVE),
+    match natural(pieces) {
+        Some(n) => Ok(Action::Space(n)),
+        None => Err(BAD_DIRECTIVE),
     }
 }
 
@@ -287,23 +316,52 @@ fn is_step(n: u128) -> bool
     matches!(n, 1 | 2 | 4 | 8 | 16 | 32 | 64 | 128)
 }
 
-/// Zero bytes in `.bss`, under a name.
+/// Zero bytes in `.bss`, so many at a multiple of a step.
 #[tactic(auto, unfolding(crate::specs::Statements::effect_of))]
+fn common_with<'a>(
+    name: &'a [u8],
+    size: Option<u128>,
+    step: Option<u128>,
+) -> Result<Action<'a>, Refusal>
+    ensures { Gives result (of_number (λ n. of_number (λ a. only_if (is_step a) (common name.now n a)) step) size) }
+{
+    match (size, step) {
+        (Some(size), Some(step)) => if is_step(step) {
+            Ok(Action::Common {
+                name,
+                size,
+                align: step as u32,
+            })
+        } else {
+            Err(BAD_DIRECTIVE)
+        },
+        (Some(_), None) | (None, _) => Err(BAD_DIRECTIVE),
+    }
+}
+
+/// Zero bytes in `.bss`, by what stands behind the symbol.
+fn common_by<'a>(name: &'a [u8], pieces: &[Piece]) -> Result<Action<'a>, Refusal>
+    ensures { Gives result (common_by name.now (parted 44 (lexemes pieces.now))) }
+{
+    let (size, behind) = first_operand(pieces);
+    let Some(behind) = behind else {
+        return Err(BAD_DIRECTIVE);
+    };
+    let (step, behind) = first_operand(behind);
+    match behind {
+        None => common_with(name, natural(size), natural(step)),
+        Some(_) => Err(BAD_DIRECTIVE),
+    }
+}
+
+/// Zero bytes in `.bss`, under a name.
 fn common_of<'a>(pieces: &[Piece<'a>]) -> Result<Action<'a>, Refusal>
-    ensures { Gives result (common_of pieces.now) }
+    ensures { Gives result (common_of (lexemes pieces.now)) }
 {
     match pieces {
-        [
-            Piece::Word(name),
-            Piece::Mark(b','),
-            Piece::Number(size),
-            Piece::Mark(b','),
-            Piece::Number(step),
-        ] if is_symbol(name) && is_step(*step) => Ok(Action::Common {
-            name: *name,
-            size: *size,
-            align: *step as u32,
-        }),
+        [Piece::Word(name), Piece::Mark(b','), rest @ ..] if is_symbol(name) => common_by(
+            *name, rest,
+        ),
         _ => Err(BAD_DIRECTIVE),
     }
 }
@@ -311,7 +369,7 @@ fn common_of<'a>(pieces: &[Piece<'a>]) -> Result<Action<'a>, Refusal>
 /// The one operand, which is quoted text, with these bytes behind it.
 #[tactic(auto, unfolding(crate::specs::Statements::effect_of))]
 fn one_text<'a>(alloc: Global, pieces: &[Piece<'a>], end: &[u8]) -> Result<Action<'a>, Refusal>
-    ensures { Gives result (one_text end.now pieces.now) }
+    ensures { Gives result (one_text end.now (lexemes pieces.now)) }
 {
     let [Piece::Quoted(quoted)] = pieces else {
         return Err(BAD_DIRECTIVE);
@@ -331,7 +389,7 @@ fn one_text<'a>(alloc: Global, pieces: &[Piece<'a>], end: &[u8]) -> Result<Actio
 fn data<'a>(alloc: Global, width: usize, pieces: &[Piece<'a>]) -> Result<Action<'a>, Refusal>
     requires some { 0 < width }
     requires most { width ≤ 16 }
-    ensures { Gives result (values_in width pieces.now) }
+    ensures { Gives result (contents (values_of width (lexemes pieces.now))) }
 {
     match values(alloc, width, pieces) {
         Ok(content) => Ok(Action::Data(content)),
@@ -342,7 +400,7 @@ fn data<'a>(alloc: Global, width: usize, pieces: &[Piece<'a>]) -> Result<Action<
 /// A global symbol.
 #[tactic(auto, unfolding(crate::specs::Statements::effect_of))]
 fn global<'a>(pieces: &[Piece<'a>]) -> Result<Action<'a>, Refusal>
-    ensures { Gives result (of_some exports (one_symbol pieces.now)) }
+    ensures { Gives result (of_some exports (one_symbol (lexemes pieces.now))) }
 {
     match one_symbol(pieces) {
         Some(name) => Ok(Action::Global(name)),
@@ -353,7 +411,7 @@ fn global<'a>(pieces: &[Piece<'a>]) -> Result<Action<'a>, Refusal>
 /// A symbol that may be common.
 #[tactic(auto, unfolding(crate::specs::Statements::effect_of))]
 fn local<'a>(pieces: &[Piece<'a>]) -> Result<Action<'a>, Refusal>
-    ensures { Gives result (of_some may_be_common (one_symbol pieces.now)) }
+    ensures { Gives result (of_some may_be_common (one_symbol (lexemes pieces.now))) }
 {
     match one_symbol(pieces) {
         Some(name) => Ok(Action::Local(name)),
@@ -368,7 +426,7 @@ pub fn action_of<'a>(
     directive: Directive,
     pieces: &[Piece<'a>],
 ) -> Result<Action<'a>, Refusal>
-    ensures { Gives result (meaning_of directive pieces.now) }
+    ensures { Gives result (meaning_of directive (lexemes pieces.now)) }
 {
     match directive {
         Directive::Text => known_section(b".text", SecKind::Code, pieces),

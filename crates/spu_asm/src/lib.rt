@@ -6,18 +6,19 @@ mod assembly;
 #[cfg(test)]
 mod assembly_tests;
 mod contents;
-pub mod cutting;
 pub mod directives;
 mod faults;
+mod laws;
 pub mod names;
 mod numerals;
 pub mod objects;
-pub mod operations;
+pub mod operands;
+pub mod parts;
 pub mod progress;
 mod quotes;
-pub mod reading;
 mod refusals;
 pub mod sections;
+pub mod slots;
 pub mod statement_reading;
 pub mod statements;
 pub mod symbols;
@@ -26,3 +27,4 @@ pub mod values;
 
 pub use assembly::{assemble, one_answer};
 pub use faults::{AsmFault, AsmKind};
+pub use laws::{operands_in_range, relocations_fit};

@@ -1,7 +1,7 @@
 //! Words that name registers, channels and symbols.
 
-ghost use Rattle.std.specs.Prelude.{◌≡◌, ◌<◌, ◌^◌, IfSome};
-ghost use Rattle.spu_asm.specs.Names.{number_below_128, register_of, channel_of, is_symbol, is_suffixed};
+ghost use Rattle.std.specs.Prelude.{◌≡◌, ◌<◌, ◌^◌, IfSome, option_map};
+ghost use Rattle.spu_asm.specs.Names.{number_below_128, register_of, channel_of, is_symbol, without_suffix};
 
 use crate::numerals::number;
 
@@ -48,13 +48,15 @@ pub fn is_symbol(word: &[u8]) -> bool
     word != b".".as_slice() && register_of(word).is_none()
 }
 
-/// Whether a word is a symbol with this suffix behind it.
-#[tactic(auto, unfolding(crate::specs::Names::is_suffixed))]
-pub fn is_suffixed(word: &[u8], letter: u8) -> bool
-    ensures { result ≡ is_suffixed letter word.now }
+/// The symbol in front of a suffix; None where the word doesn't end with it.
+#[tactic(auto, unfolding(crate::specs::Names::without_suffix))]
+pub fn without_suffix<'a>(suffix: &[u8], word: &'a [u8]) -> Option<&'a [u8]>
+    ensures { option_map (λ name. name.now) result ≡ without_suffix suffix.now word.now }
 {
-    match word {
-        [front @ .., b'@', last] => *last == letter && !front.is_empty() && is_symbol(front),
-        _ => false,
+    let (front, end) = word.split_at(word.len().saturating_sub(suffix.len()));
+    if end == suffix && !front.is_empty() && is_symbol(front) {
+        Some(front)
+    } else {
+        None
     }
 }

@@ -2,7 +2,7 @@
 
 ghost use Rattle.std.specs.Prelude.{◌≡◌, ◌∷◌, [], OnOk, IfOk, option_map};
 ghost use Rattle.spu_asm.specs.Statements.{stmt_of};
-ghost use Rattle.spu_asm.specs.Faults.{Run, run_of, after, comes_before, earlier};
+ghost use Rattle.spu_asm.specs.Faults.{Run, nothing_yet, after, comes_before, earlier};
 ghost use Rattle.spu_asm.specs.Progressing.{InRun, Finishes, fault_of};
 
 use crate::accumulating::{Assembler, fault_number};
@@ -58,7 +58,7 @@ impl<'a> Progress<'a> {
     /// No statement yet.
     #[tactic(auto, using(crate::proofs::Joins::begins))]
     pub fn new(alloc: Global) -> Progress<'a>
-        ensures { InRun (run_of []) result }
+        ensures { InRun nothing_yet result }
     {
         Progress {
             assembler: Assembler::new(alloc),

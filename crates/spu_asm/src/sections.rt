@@ -1,17 +1,20 @@
 //! Sections as statements add to them.
 
-ghost use Rattle.std.specs.Prelude.{◌≡◌, ℕ, ◌+◌, ◌*◌, ◌/◌, ◌≤◌, ◌<◌, ◌^◌, [], ◌∷◌, ◌++◌, length, map, replicate, OnOk, IfOk, IfSome, option_map, Option};
+ghost use Rattle.std.specs.Prelude.{◌≡◌, ℕ, ◌+◌, ◌*◌, ◌/◌, ◌≤◌, ◌<◌, ◌^◌, [], ◌∷◌, ◌++◌, length, map, replicate, OnOk, IfOk, IfSome, option_map, Option, Some};
 ghost use Rattle.std.specs.List.{concat};
 ghost use Rattle.spu_word.specs.Bytes.{be_digits};
-ghost use Rattle.spu_asm.specs.Statements.{effect_of, instruction_of, content_of, relocation_of, target_name, address_relocation, listed, align};
+ghost use Rattle.spu_asm.specs.Statements.{effect_of, instruction_of, content_of, relocations_by, address_relocation, listed, align};
+ghost use Rattle.spu_asm.specs.Operands.{target_in};
+ghost use Rattle.spu_reloc.specs.Fields.{number_of};
 ghost use Rattle.spu_asm.specs.Histories.{gap, filling, moved, added_bytes};
 ghost use Rattle.spu_asm.specs.Tables.{edited, opened, value_in};
 ghost use Rattle.spu_asm.specs.Cursors.{relocation_of_pending, draft_of, drafts, blank, grown, referring, raised, grown_by, Fits, draft_kind, draft_size};
 
-use crate::reading::{Reference, Target};
-use crate::statements::{Action, AddressValue, Coded, Content};
+use crate::operands::Target;
+use crate::statements::{Action, AddressValue, Content, Instruction};
 use crate::tables::Table;
 use spu_elf::SecKind;
+use spu_reloc::RelocKind;
 use spu_word::{Bytes, OutOfMemory, Seq};
 use std::alloc::Global;
 
@@ -64,38 +67,37 @@ pub fn padding(kind: SecKind, step: u32, at: u32) -> u32
     }
 }
 
-/// The symbol of a target, without its suffix.
-pub fn symbol_of<'a>(target: &Target<'a>) -> &'a [u8]
-    ensures { result.now ≡ target_name target.now }
+/// The number of a relocation (SPU ABI, "Relocation types").
+fn number_of(kind: RelocKind) -> u32
+    ensures { result ≡ number_of kind }
 {
-    match target.reference {
-        Reference::High | Reference::Low => {
-            target.word.split_at(target.word.len().saturating_sub(2)).0
-        }
-        Reference::Relative | Reference::Absolute | Reference::Address | Reference::Hint =>
-            target.word,
+    match kind {
+        RelocKind::Addr16 => 2,
+        RelocKind::Addr16Hi => 3,
+        RelocKind::Addr16Lo => 4,
+        RelocKind::Addr18 => 5,
+        RelocKind::Addr32 => 6,
+        RelocKind::Rel16 => 7,
     }
 }
 
-/// The relocation of an instruction at a place; a hint has none.
-#[tactic(auto, unfolding(crate::specs::Statements::relocation_of))]
-fn relocation_at<'a>(at: u32, target: &Target<'a>) -> Option<Pending<'a>>
-    ensures { map relocation_of_pending (listed result) ≡ moved at (relocation_of target.now) }
+/// The relocation that a symbol makes in an instruction at an offset.
+fn relocation_at<'a>(at: u32, kind: RelocKind, target: &Target<'a>) -> Option<Pending<'a>>
+    ensures { map relocation_of_pending (listed result) ≡ moved at (relocations_by kind (Some (target_in target.now))) }
 {
-    let number = match target.reference {
-        Reference::Relative => 7,
-        Reference::Absolute => 2,
-        Reference::Address => 5,
-        Reference::High => 3,
-        Reference::Low => 4,
-        Reference::Hint => return None,
-    };
-    Some(Pending {
-        offset: u128::from(at),
-        number,
-        name: symbol_of(target),
-        addend: target.addend,
-    })
+    match kind {
+        RelocKind::Addr32 => None,
+        RelocKind::Addr16
+        | RelocKind::Addr16Hi
+        | RelocKind::Addr16Lo
+        | RelocKind::Addr18
+        | RelocKind::Rel16 => Some(Pending {
+            offset: u128::from(at),
+            number: number_of(kind),
+            name: target.name,
+            addend: target.addend,
+        }),
+    }
 }
 
 impl<'a> SectionDraft<'a> {
@@ -174,10 +176,10 @@ impl<'a> SectionDraft<'a> {
     }
 
     /// Adds the relocation of an instruction that is about to come.
-    fn refer(&mut self, target: &Target<'a>) -> Result<(), OutOfMemory>
-        ensures { OnOk result (draft_of self.new ≡ referring (moved self.old.size (relocation_of target.now)) (draft_of self.old)) }
+    fn refer(&mut self, kind: RelocKind, target: &Target<'a>) -> Result<(), OutOfMemory>
+        ensures { OnOk result (draft_of self.new ≡ referring (moved self.old.size (relocations_by kind (Some (target_in target.now)))) (draft_of self.old)) }
     {
-        match relocation_at(self.size, target) {
+        match relocation_at(self.size, kind, target) {
             Some(p) => self.relocations.push(p),
             None => Ok(()),
         }
@@ -189,7 +191,7 @@ impl<'a> SectionDraft<'a> {
     {
         self.relocations.push(Pending {
             offset: u128::from(self.size) + address.offset as u128,
-            number: 6,
+            number: number_of(RelocKind::Addr32),
             name: address.name,
             addend: address.addend,
         })
@@ -206,12 +208,12 @@ impl<'a> SectionDraft<'a> {
     }
 
     /// Adds an instruction.
-    fn instruct(&mut self, coded: &Coded<'a>) -> Result<(), OutOfMemory>
+    fn instruct(&mut self, coded: &Instruction<'a>) -> Result<(), OutOfMemory>
         requires { Fits (instruction_of coded.now) (draft_of self.old) }
         ensures { OnOk result (draft_of self.new ≡ grown_by (instruction_of coded.now) (draft_of self.old)) }
     {
         if let Some(target) = coded.target {
-            self.refer(&target)?;
+            self.refer(coded.kind, &target)?;
         }
         self.append(&coded.word.to_be_bytes())
     }

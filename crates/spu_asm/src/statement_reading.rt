@@ -1,28 +1,32 @@
-//! Statements, from their tokens.
+//! Statements, from the pieces of a line.
 
-ghost use Rattle.std.specs.Prelude.{◌≡◌, ◌≤◌, ℕ, List, length, IfOk, IfSome, Some, map, option_map};
+ghost use Rattle.std.specs.Prelude.{◌≡◌, ◌<◌, ◌≤◌, ◌^◌, ℕ, List, length, IfOk, IfSome, Some, map, option_map};
 ghost use Rattle.std.specs.List.{list_all};
-ghost use Rattle.spu_text.specs.declared.lexemes.Token.{Token};
-ghost use Rattle.spu_asm.specs.declared.values.Piece.{Piece};
-ghost use Rattle.spu_asm.specs.Cutting.{ArePieces};
-ghost use Rattle.spu_asm.specs.Statements.{Stmt, stmt_of};
-ghost use Rattle.spu_asm.specs.StatementReading.{IsStatement, Instructs, Says, SaysSo, directive, mnemonic, head_of, label_of, labels_of, behind_labels, has_sound_quotes};
+ghost use Rattle.spu_text.specs.Lexemes.{lexeme_of};
+ghost use Rattle.spu_isa.specs.declared.operation.Op.{Op};
+ghost use Rattle.spu_asm.specs.Parts.{lexemes};
+ghost use Rattle.spu_asm.specs.Values.{operands_of};
+ghost use Rattle.spu_asm.specs.Operands.{coded};
+ghost use Rattle.spu_asm.specs.Statements.{stmt_of};
+ghost use Rattle.spu_asm.specs.Contents.{Gives};
+ghost use Rattle.spu_asm.specs.Directives.{directive_of};
+ghost use Rattle.spu_asm.specs.StatementReading.{label_of, labels_of, behind_labels, instructed, op_of, operation, directed, said, has_sound_quotes, statement_of};
 
-use crate::directives::{action_of, directive_named};
+use crate::directives::{action_of, directive_of};
 use crate::faults::AsmKind;
 use crate::names::is_symbol;
+use crate::operands::{instruction_of, kind_on};
 use crate::quotes::is_known;
-use crate::reading::{OperandFault, build};
 use crate::refusals::Refusal;
-use crate::statements::{Action, Coded, Statement};
-use crate::values::Piece;
+use crate::statements::{Action, Instruction, Statement};
 use spu_isa::{Op, encode, op_named};
+use spu_text::Piece;
 use spu_word::OutOfMemory;
 use std::alloc::Global;
 
 /// The label at the front of the pieces, which has a `:` behind it.
 fn label_of<'a>(pieces: &[Piece<'a>]) -> Option<&'a [u8]>
-    ensures name { option_map (λ name. name.now) result ≡ label_of pieces.now }
+    ensures name { option_map (λ name. name.now) result ≡ label_of (lexemes pieces.now) }
     ensures two { IfSome result (λ _. 2 ≤ length pieces.now) }
 {
     match pieces {
@@ -34,7 +38,7 @@ fn label_of<'a>(pieces: &[Piece<'a>]) -> Option<&'a [u8]>
 /// The labels in front of the pieces, in order.
 #[tactic(auto, using(crate::proofs::StatementLemmas::labels_step, crate::proofs::StatementLemmas::labels_end))]
 fn labels_of<'a>(alloc: Global, pieces: &[Piece<'a>]) -> Result<Vec<&'a [u8]>, OutOfMemory>
-    ensures { IfOk result (λ names. map (λ w. w.now) names.items ≡ labels_of pieces.now) }
+    ensures { IfOk result (λ names. map (λ w. w.now) names.items ≡ labels_of (lexemes pieces.now)) }
 {
     let mut labels = Vec::new(alloc);
     let mut at = 0;
@@ -48,7 +52,7 @@ fn labels_of<'a>(alloc: Global, pieces: &[Piece<'a>]) -> Result<Vec<&'a [u8]>, O
 /// What stands behind the labels.
 #[tactic(auto, using(crate::proofs::StatementLemmas::behind_step, crate::proofs::StatementLemmas::behind_end))]
 fn behind_labels<'p, 'a>(pieces: &'p [Piece<'a>]) -> &'p [Piece<'a>]
-    ensures { result.now ≡ behind_labels pieces.now }
+    ensures { lexemes result.now ≡ behind_labels (lexemes pieces.now) }
 {
     let mut at = 0;
     while label_of(pieces.split_at(at).1).is_some() {
@@ -60,16 +64,16 @@ fn behind_labels<'p, 'a>(pieces: &'p [Piece<'a>]) -> &'p [Piece<'a>]
 /// An operation with its operands.
 #[tactic(auto, unfolding(crate::specs::Statements::effect_of))]
 fn instruction<'a>(op: Op, pieces: &[Piece<'a>]) -> Result<Action<'a>, Refusal>
-    ensures { SaysSo result (λ m. Instructs (Some op) pieces.now m) }
+    ensures { Gives result (instructed op (coded op (operands_of (lexemes pieces.now)))) }
 {
-    match build(op, pieces) {
-        Ok(built) => Ok(Action::Instruction(Coded {
-            word: encode(&built.inst),
-            place: built.place,
-            target: built.target,
+    match instruction_of(op, pieces) {
+        Ok(coded) => Ok(Action::Instruction(Instruction {
+            word: encode(&coded.inst),
+            place: coded.place,
+            target: coded.target,
+            kind: kind_on(op),
         })),
-        Err(OperandFault::BadOperand) => Err(Refusal::Fault(AsmKind::BadOperand)),
-        Err(OperandFault::Range) => Err(Refusal::Fault(AsmKind::Range)),
+        Err(kind) => Err(Refusal::Fault(kind)),
     }
 }
 
@@ -79,19 +83,26 @@ fn named_directive<'a>(
     name: &[u8],
     pieces: &[Piece<'a>],
 ) -> Result<Action<'a>, Refusal>
-    ensures { SaysSo result (λ m. Says (directive name.now pieces.now) m) }
+    ensures { Gives result (directed (directive_of name.now) (lexemes pieces.now)) }
 {
-    match directive_named(name) {
-        Some(d) => action_of(alloc, d, pieces),
+    match directive_of(name) {
+        Some(directive) => action_of(alloc, directive, pieces),
         None => Err(Refusal::Fault(AsmKind::BadDirective)),
     }
 }
 
+/// The operation of a mnemonic.
+fn op_of(name: &[u8]) -> Option<Op>
+    ensures { result ≡ op_of name.now }
+{
+    op_named(name)
+}
+
 /// A mnemonic with its operands.
 fn named_instruction<'a>(name: &[u8], pieces: &[Piece<'a>]) -> Result<Action<'a>, Refusal>
-    ensures { SaysSo result (λ m. Says (mnemonic name.now pieces.now) m) }
+    ensures { Gives result (operation (op_of name.now) (lexemes pieces.now)) }
 {
-    match op_named(name) {
+    match op_of(name) {
         Some(op) => instruction(op, pieces),
         None => Err(Refusal::Fault(AsmKind::UnknownMnemonic)),
     }
@@ -100,7 +111,7 @@ fn named_instruction<'a>(name: &[u8], pieces: &[Piece<'a>]) -> Result<Action<'a>
 /// What the pieces behind the labels do.
 #[tactic(auto, unfolding(crate::specs::Statements::effect_of))]
 fn action<'a>(alloc: Global, pieces: &[Piece<'a>]) -> Result<Action<'a>, Refusal>
-    ensures { SaysSo result (λ m. Says (head_of pieces.now) m) }
+    ensures { Gives result (said (lexemes pieces.now)) }
 {
     match pieces {
         [] => Ok(Action::Nothing),
@@ -116,7 +127,7 @@ fn action<'a>(alloc: Global, pieces: &[Piece<'a>]) -> Result<Action<'a>, Refusal
 
 /// Whether a piece has no quote that isn't closed and no escape that isn't known.
 fn has_sound_quotes(piece: &Piece) -> bool
-    ensures { result ≡ has_sound_quotes piece.now }
+    ensures { result ≡ has_sound_quotes (lexeme_of piece.now) }
 {
     match piece {
         Piece::Mark(mark) => *mark != b'"',
@@ -127,9 +138,16 @@ fn has_sound_quotes(piece: &Piece) -> bool
 
 /// Whether each quote is closed and each escape is known.
 fn have_sound_quotes(pieces: &[Piece]) -> bool
-    ensures { result ≡ list_all has_sound_quotes pieces.now }
+    ensures { result ≡ list_all has_sound_quotes (lexemes pieces.now) }
 {
-    pieces.iter().all(|p| has_sound_quotes(p))
+    let mut rest = pieces;
+    while let [piece, more @ ..] = rest {
+        if !has_sound_quotes(piece) {
+            return false;
+        }
+        rest = more;
+    }
+    true
 }
 
 /// The statement that the pieces of a line are, by SPU Assembly Language: labels, then nothing, a directive or an
@@ -140,7 +158,7 @@ pub fn statement<'a>(
     line: u32,
     pieces: &[Piece<'a>],
 ) -> Result<Statement<'a>, OutOfMemory>
-    ensures { IfOk result (λ s. IsStatement line pieces.now (stmt_of s)) }
+    ensures { IfOk result (λ s. stmt_of s ≡ statement_of line (lexemes pieces.now)) }
 {
     let labels = labels_of(alloc, pieces)?;
     let action = match action(alloc, behind_labels(pieces)) {
@@ -158,8 +176,3 @@ pub fn statement<'a>(
         action,
     })
 }
-
-/// The pieces of the same tokens are one statement alone.
-pub fn one_statement()
-    ensures { (text : List ℕ) (line : ℕ) (tokens : List Token) (ps qs : List Piece) (s t : Stmt) → ArePieces text tokens ps → ArePieces text tokens qs → IsStatement line ps s → IsStatement line qs t → s ≡ t }
-{}

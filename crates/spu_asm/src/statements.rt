@@ -1,8 +1,9 @@
 //! Statements: the labels of each, and what it does.
 
 use crate::faults::AsmKind;
-use crate::reading::Target;
+use crate::operands::Target;
 use spu_elf::{SecKind, SymKind};
+use spu_reloc::RelocKind;
 use spu_word::Bytes;
 
 /// A symbol in the values of a directive: the four bytes at `offset` get its address and the addend.
@@ -25,12 +26,14 @@ pub struct Content<'a> {
 
 /// An instruction's word, and the symbols in its operands.
 #[derive(Clone, Copy, PartialEq, Eq, Debug)]
-pub struct Coded<'a> {
+pub struct Instruction<'a> {
     pub word: u32,
     /// The symbol of a hint's place, which is named alone.
     pub place: Option<&'a [u8]>,
-    /// The symbol that the instruction refers to, with its suffix where it has one.
+    /// The symbol that the instruction refers to.
     pub target: Option<Target<'a>>,
+    /// The relocation that it makes; none where that is `Addr32`.
+    pub kind: RelocKind,
 }
 
 /// What a statement does behind its labels.
@@ -39,7 +42,7 @@ pub enum Action<'a> {
     /// Nothing.
     Nothing,
     /// An instruction.
-    Instruction(Coded<'a>),
+    Instruction(Instruction<'a>),
     /// Values or text.
     Data(Content<'a>),
     /// So many zero bytes.

@@ -6,8 +6,7 @@ ghost use Rattle.spu_asm.specs.Histories.{reach, relocation_names};
 ghost use Rattle.spu_asm.specs.Tables.{put, opened, value_in};
 ghost use Rattle.spu_asm.specs.Cursors.{spot_of_code, sighting_of, sightings, unseen, state_at, spot_at, told, mentioned, labelled, placed, told_by};
 
-use crate::sections::symbol_of;
-use crate::statements::{Action, AddressValue, Coded};
+use crate::statements::{Action, AddressValue, Instruction};
 use crate::tables::Table;
 use spu_elf::SymKind;
 use spu_word::OutOfMemory;
@@ -182,16 +181,16 @@ impl<'a> Table<'a, SymbolDraft<'a>> {
     }
 
     /// Names the symbols in the operands of an instruction.
-    fn mention_operands(&mut self, coded: &Coded<'a>) -> Result<(), OutOfMemory>
+    fn mention_operands(&mut self, coded: &Instruction<'a>) -> Result<(), OutOfMemory>
         ensures { OnOk result (sightings self.new ≡ mentioned (sightings self.old) (instruction_names coded.now)) }
     {
         match (coded.place, coded.target) {
             (None, None) => Ok(()),
             (Some(place), None) => self.mention(place),
-            (None, Some(target)) => self.mention(symbol_of(&target)),
+            (None, Some(target)) => self.mention(target.name),
             (Some(place), Some(target)) => {
                 self.mention(place)?;
-                self.mention(symbol_of(&target))
+                self.mention(target.name)
             }
         }
     }

@@ -1,6 +1,6 @@
 //! Values by name, in the order in which the names came.
 
-ghost use Rattle.std.specs.Prelude.{◌≡◌, ◌+◌, ◌<◌, ◌≤◌, ◌^◌, [], ◌∷◌, length, map, drop, MatchOption, IfSome, OnOk};
+ghost use Rattle.std.specs.Prelude.{◌≡◌, true, Some, ◌+◌, ◌<◌, ◌≤◌, ◌^◌, [], ◌∷◌, length, map, drop, MatchOption, IfSome, OnOk};
 ghost use Rattle.std.specs.Option.{option_copied};
 ghost use Rattle.spu_asm.specs.Standing.{Distinct};
 ghost use Rattle.spu_asm.specs.Tables.{rows, value_in, index_in, opened, place_in, put};
@@ -13,6 +13,8 @@ use std::alloc::Global;
 #[derive(Drop)]
 pub struct Table<'a, T> {
     pub(crate) map: IndexMap<&'a [u8], T>,
+    /// The place at which a name is sought first.
+    last: usize,
 }
 
 impl<'a, T> Table<'a, T> {
@@ -22,6 +24,7 @@ impl<'a, T> Table<'a, T> {
     {
         Table {
             map: IndexMap::new(alloc),
+            last: 0,
         }
     }
 
@@ -29,7 +32,13 @@ impl<'a, T> Table<'a, T> {
     pub fn get(&self, name: &[u8]) -> Option<&T>
         ensures { option_copied result ≡ value_in (rows self.now) name.now }
     {
-        self.map.get(name)
+        match self.place(name) {
+            Some(i) => match self.map.get_index(i) {
+                Some((_, value)) => Some(value),
+                None => None,
+            },
+            None => None,
+        }
     }
 
     /// How many names there are; each stands once.
@@ -65,11 +74,26 @@ impl<'a, T> Table<'a, T> {
         }
     }
 
+    /// Whether a name stands at a place.
+    fn is_at(&self, i: usize, name: &[u8]) -> bool
+        ensures { result ≡ true → Some i ≡ place_in (rows self.now) name.now }
+    {
+        let _len = self.map.len();
+        match self.map.get_index(i) {
+            Some((key, _)) => *key == name,
+            None => false,
+        }
+    }
+
     /// The place of a name.
     pub fn place(&self, name: &[u8]) -> Option<usize>
         ensures { result ≡ place_in (rows self.now) name.now }
     {
-        self.map.get_index_of(name)
+        if self.is_at(self.last, name) {
+            Some(self.last)
+        } else {
+            self.map.get_index_of(name)
+        }
     }
 }
 
@@ -78,8 +102,11 @@ impl<'a, T: Drop> Table<'a, T> {
     pub fn open(&mut self, name: &'a [u8], value: T) -> Result<(), OutOfMemory>
         ensures ok { OnOk result (rows self.new ≡ opened (rows self.old) name.now value) }
     {
-        if self.map.get_index_of(name).is_none() {
-            self.map.insert(name, value)?;
+        match self.place(name) {
+            Some(i) => self.last = i,
+            None => {
+                self.map.insert(name, value)?;
+            }
         }
         Ok(())
     }

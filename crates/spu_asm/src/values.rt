@@ -1,22 +1,11 @@
 //! Values in operands and directives: numbers, the statement's own place, and symbols with an addend.
 
-ghost use Rattle.std.specs.Prelude.{◌≡◌, Option, option_map, Bool, true, false, ℕ};
-ghost use Rattle.spu_asm.specs.Values.{behind, offset_of, value_of, word_value};
+ghost use Rattle.std.specs.Prelude.{◌≡◌, true, false, Option, option_map};
+ghost use Rattle.spu_asm.specs.Values.{offset, natural, value_in, value_of, word_value};
+ghost use Rattle.spu_asm.specs.Parts.{lexemes};
 
 use crate::names::is_symbol;
-
-/// A token of a statement, with its text.
-#[derive(Clone, Copy, PartialEq, Eq, Debug)]
-pub enum Piece<'a> {
-    /// Letters, digits, `_`, `.`, `$` and `@`, of which the first is no digit.
-    Word(&'a [u8]),
-    /// A number below 2^128.
-    Number(u128),
-    /// Text between quotes, with its quotes.
-    Quoted(&'a [u8]),
-    /// Any other byte.
-    Mark(u8),
-}
+use spu_text::Piece;
 
 /// A signed number as it is written: whether `-` stands before it, and its size.
 #[derive(Clone, Copy, PartialEq, Eq, Debug)]
@@ -36,39 +25,43 @@ pub enum Value<'a> {
     Symbol(&'a [u8], Offset),
 }
 
-/// What is added to a symbol or a place, 0 where nothing is, and what stands behind that.
-fn offset_of<'p, 'a>(pieces: &'p [Piece<'a>]) -> (Offset, &'p [Piece<'a>])
-    ensures { behind result ≡ offset_of pieces.now }
+impl Offset {
+    /// The number, where it is from 0 on; `-0` is 0.
+    pub fn natural(self) -> Option<u128>
+        ensures { result ≡ natural self }
+    {
+        if self.negative && self.size != 0 {
+            None
+        } else {
+            Some(self.size)
+        }
+    }
+}
+
+/// A number of this size.
+fn plus(size: u128) -> Offset
+    ensures { result ≡ offset false size }
 {
-    match pieces {
-        [Piece::Mark(b'+'), Piece::Number(size), rest @ ..] => (
-            Offset {
-                negative: false,
-                size: *size,
-            },
-            rest,
-        ),
-        [Piece::Mark(b'-'), Piece::Number(size), rest @ ..] => (
-            Offset {
-                negative: true,
-                size: *size,
-            },
-            rest,
-        ),
-        _ => (
-            Offset {
-                negative: false,
-                size: 0,
-            },
-            pieces,
-        ),
+    Offset {
+        negative: false,
+        size,
+    }
+}
+
+/// A number of this size behind `-`.
+fn minus(size: u128) -> Offset
+    ensures { result ≡ offset true size }
+{
+    Offset {
+        negative: true,
+        size,
     }
 }
 
 /// The value of a word and what is added to it.
 #[tactic(auto, unfolding(crate::specs::Values::word_value))]
 fn word_value<'a>(word: &'a [u8], offset: Offset) -> Option<Value<'a>>
-    ensures { result ≡ word_value word.entry offset }
+    ensures { option_map value_in result ≡ word_value word.now offset }
 {
     if word == b".".as_slice() {
         Some(Value::Here(offset))
@@ -79,30 +72,23 @@ fn word_value<'a>(word: &'a [u8], offset: Offset) -> Option<Value<'a>>
     }
 }
 
-/// The value at the front of the pieces, and what stands behind it.
+/// The value that an operand is.
 #[tactic(auto, unfolding(crate::specs::Values::value_of))]
-pub fn value_of<'p, 'a>(pieces: &'p [Piece<'a>]) -> Option<(Value<'a>, &'p [Piece<'a>])>
-    ensures { option_map behind result ≡ value_of pieces.now }
+pub fn value_of<'a>(operand: &[Piece<'a>]) -> Option<Value<'a>>
+    ensures { option_map value_in result ≡ value_of (lexemes operand.now) }
 {
-    match pieces {
-        [Piece::Number(size), rest @ ..] => Some((
-            Value::Number(Offset {
-                negative: false,
-                size: *size,
-            }),
-            rest,
-        )),
-        [Piece::Mark(b'-'), Piece::Number(size), rest @ ..] => Some((
-            Value::Number(Offset {
-                negative: true,
-                size: *size,
-            }),
-            rest,
-        )),
-        [Piece::Word(word), rest @ ..] => {
-            let (offset, rest) = offset_of(rest);
-            Some((word_value(word, offset)?, rest))
-        }
+    match operand {
+        [Piece::Number(size)] => Some(Value::Number(plus(*size))),
+        [Piece::Mark(b'-'), Piece::Number(size)] => Some(Value::Number(minus(*size))),
+        [Piece::Word(word)] => word_value(word, plus(0)),
+        [Piece::Word(word), Piece::Mark(b'+'), Piece::Number(size)] => word_value(
+            word,
+            plus(*size),
+        ),
+        [Piece::Word(word), Piece::Mark(b'-'), Piece::Number(size)] => word_value(
+            word,
+            minus(*size),
+        ),
         _ => None,
     }
 }

@@ -6,16 +6,15 @@ ghost use Rattle.spu_word.specs.declared.load.Inputs.{Inputs};
 ghost use Rattle.spu_lift.specs.declared.program.Prog.{Prog};
 ghost use Rattle.spu_lift.specs.declared.program.SymInst.{SymInst};
 ghost use Rattle.spu_lift.specs.Places.{instruction_at, link_register, stack_pointer};
+ghost use Rattle.spu_elf.specs.declared.objects.Object.{Object};
+ghost use Rattle.spu_lift.specs.FirstForm.{IsFirst};
+ghost use Rattle.spu_lift.specs.First.{StandsFor};
 ghost use Rattle.spu_lift.specs.WellFormed.{IsWellFormed};
 ghost use Rattle.spu_ideal.specs.Bytes.{known_word, link_of};
 ghost use Rattle.spu_ideal.specs.State.{Sym};
 ghost use Rattle.spu_ideal.specs.Machine.{calls, run, start, step};
 ghost use Rattle.spu_ideal.specs.States.{IsOf, IsJudged};
 ghost use Rattle.spu_ideal.specs.Promises.{IsHigh};
-ghost use Rattle.spu_ideal.specs.Samples.{nothing};
-ghost use Rattle.spu_ideal.specs.Samples.{sends_five, loses_link, copies_link, spoils_link};
-ghost use Rattle.spu_ideal.specs.declared.ending.IdealEnd.TheVariants as ending;
-ghost use Rattle.spu_ideal.specs.declared.ending.Reason.TheVariants as reason;
 
 /// A call leaves the link of the next place in the link register.
 #[tactic(auto, using(crate::proofs::Calls::link_left))]
@@ -27,17 +26,6 @@ pub fn call_leaves_link()
 #[tactic(auto, using(crate::proofs::Calls::call_enters))]
 pub fn call_enters_function()
     ensures { (p : Prog) (g : ℕ) (s : Sym) (y : SymInst) → instruction_at p g 0 ≡ Some y → ((calls p g s).f ≡ g) × ((calls p g s).i ≡ 0) }
-{}
-
-/// A program that sends 5 and returns stops after five steps, and so does one that copies its link away and back; one
-/// that loses its link leaves, and so does one that spoils a byte of it.
-#[tactic(auto, using(crate::proofs::Samples::run_stops, crate::proofs::Samples::five_is_sent, crate::proofs::Samples::run_leaves, crate::proofs::Samples::copy_stops, crate::proofs::Samples::spoilt_leaves))]
-pub fn samples_run()
-    ensures stops { (run sends_five (λ f. 0) 16384 nothing 5).ended ≡ Some (ending.Stop 8192) }
-    ensures sends { (run sends_five (λ f. 0) 16384 nothing 5).output ≡ 5 ∷ [] }
-    ensures leaves { (run loses_link (λ f. 0) 16384 nothing 3).ended ≡ Some (ending.Outside reason.Target 1 1) }
-    ensures copies { (run copies_link (λ f. 0) 16384 nothing 5).ended ≡ Some (ending.Stop 8192) }
-    ensures spoils { (run spoils_link (λ f. 0) 16384 nothing 4).ended ≡ Some (ending.Outside reason.Target 1 2) }
 {}
 
 /// A run begins in a state of its program.
@@ -70,4 +58,9 @@ pub fn open_calls_are_few()
 /// area, and so do the transfers that wait.
 pub fn run_is_high()
     ensures { (p : Prog) (frames : ℕ → ℕ) (need : ℕ) → IsJudged p frames need → (limit : ℕ) → need ≤ limit → (inputs : Inputs) (n : ℕ) → IsHigh p frames limit (run p frames limit inputs n) }
+{}
+
+/// A program of an object of the first form is judged, with frames of no bytes and no need.
+pub fn first_programs_are_judged()
+    ensures { (o : Object) (p : Prog) → IsFirst o → StandsFor o p → IsJudged p (λ f. 0) 0 }
 {}

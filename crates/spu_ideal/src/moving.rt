@@ -29,7 +29,7 @@ pub fn links_are_chosen()
 {}
 
 /// `ila` of a label gives its four parts in each word, and so do `ilhu` and `iohl` together.
-#[tactic(auto, using(crate::proofs::Tried::label_whole, crate::proofs::Tried::label_halves))]
+#[tactic(auto, using(crate::proofs::Moved::label_whole, crate::proofs::Moved::label_halves))]
 pub fn labels_are_built()
     ensures whole { (l : Label) (a b c t : List SymByte) → label_value (of_op op.Ila (pos 0)) l a b c t ≡ sixteen (λ k. Part l (k % 4)) }
     ensures halves { (l : Label) (a b c t : List SymByte) → label_value (of_op op.Iohl (pos 0)) l a b c (label_value (of_op op.Ilhu (pos 0)) l a b c t) ≡ sixteen (λ k. Part l (k % 4)) }

@@ -1,79 +1,55 @@
--- The main promise of a link: as long as the symbolic run of the linked program stays inside, the machine's run of
--- the image matches it, at the word of the function and place meant, with the stack pointer within the printed need;
--- and data, code, buffer and stack lie apart.
-use Rattle.std.specs.Prelude.{◌≡◌, ℕ, ◌+◌, ◌-◌, ◌<◌, ◌≤◌, ◌⊎◌, List, [], ◌∷◌, Option, Some, None, slice_index}
+-- The main promise of a link: for all inputs with which the executable starts, and as long as the symbolic run stays inside, the
+-- machine's run of the executable matches it hop by hop, at the word of the function and place meant, with the stack pointer within the
+-- need; the code stays as it was; and data, code, buffers and stack lie apart.
+use Rattle.std.specs.Prelude.{◌≡◌, ℕ, zero, suc, ◌-◌, ◌≤◌, Bool, List, None}
 use Rattle.spu_word.specs.Bytes.{word_of}
+use Rattle.spu_word.specs.declared.limits.TheConstants.{DATA_START, STACK_TOP, STORE_SIZE}
+use Rattle.spu_word.specs.declared.load.Inputs.{Inputs}
 use Rattle.spu_elf.specs.declared.executables.Exec.{Exec}
-use Rattle.spu_lift.specs.declared.program.SymInst.{SymInst}
 use Rattle.spu_lift.specs.declared.program.Prog.{Prog}
-use Rattle.spu_ls.specs.Stores.{fetch}
-use Rattle.spu_ls.specs.Machine.{State, steps}
-use Rattle.spu_ls.specs.Start as starting
-use Rattle.spu_ls.specs.declared.ending.RunEnd.{RunEnd}
-use Rattle.spu_ls.specs.declared.ending.RunEnd.TheVariants as machine
-use Rattle.spu_ideal.specs.declared.ending.IdealEnd.{IdealEnd}
-use Rattle.spu_ideal.specs.declared.ending.IdealEnd.TheVariants as ideal
-use Rattle.spu_ideal.specs.Bytes.{Symbol, Num, Part, Unknown, symbol_at}
-use Rattle.spu_ideal.specs.Machine.{Sym, Update, NoUpdate, Pending, UnknownUpdate, instruction_at, run, IsInside}
-use Rattle.spu_image.specs.Layout.{at, code, areas, AreDisjoint}
-use Rattle.spu_image.specs.Images.{IsWord}
+use Rattle.spu_lift.specs.Places.{stack_pointer}
+use Rattle.spu_ls.specs.declared.ending.TheConstants.{MAX_HOP_STEPS}
+use Rattle.spu_ls.specs.Machine.{State, step}
+use Rattle.spu_ls.specs.Hops.{hop, Along}
+use Rattle.spu_ls.specs.Sound.{IsOverBytes}
+use Rattle.spu_ls.specs.Start.{start}
+use Rattle.spu_ls.specs.Loading.{IsAdmitted, load_fault}
+use Rattle.spu_ideal.specs.Machine.{run, IsInside}
+use Rattle.spu_layout.specs.Layouts.{Layout, areas, AreDisjoint, IsFixed, is_between}
+use Rattle.spu_image.specs.Matching.{Matches, Meant}
 
--- a number agrees with itself, a part of a label with that byte of its code, and Unknown with every byte
-abbrev pub Agrees : Prog → Symbol → ℕ → Type 0
-Agrees p (Num n) v = v ≡ n
-Agrees p (Part l k) v = v ≡ slice_index (code p l) k
-Agrees p Unknown v = Unit {0}
+-- the machine after n hops from the state after its first step, which is the start code's load of the stack pointer
+unfoldable pub hops : (ℕ → Bool) → State → ℕ → State
+hops between first zero = first
+hops between first (suc n) = hop between (hops between first n)
 
-abbrev pub AgreesQuad : Prog → List Symbol → List ℕ → Type 0
-AgreesQuad p symbols quad = (k : ℕ) → k < 16 → Agrees p (symbol_at symbols k) (slice_index quad k)
+-- what holds after the last of n hops and after each of its steps
+unfoldable pub InHop : (State → Type 0) → (ℕ → Bool) → State → ℕ → Type 0
+InHop P between first zero = P first
+InHop P between first (suc n) = Along P between MAX_HOP_STEPS (step (hops between first n))
 
-abbrev pub AgreesWord : Option ℕ → ℕ → Type 0
-AgreesWord None w = Unit {0}
-AgreesWord (Some v) w = w ≡ v
+-- the stack pointer is within the need
+abbrev pub IsAbove : ℕ → State → Type 0
+IsAbove need m = STACK_TOP - need ≤ word_of (m.regs stack_pointer) 0
 
-abbrev pub AgreesUpdate : Update → Option ℕ → Type 0
-AgreesUpdate NoUpdate u = u ≡ None
-AgreesUpdate (Pending w) u = u ≡ Some w
-AgreesUpdate UnknownUpdate u = Unit {0}
+-- the code and what the loader reads hold what they held
+abbrev pub KeepsCode : Layout → State → State → Type 0
+KeepsCode l begin m = (a : ℕ) → IsFixed l a → m.store a ≡ begin.store a
 
--- the ends correspond; an end outside has none
-abbrev pub SameEnd : Prog → Option IdealEnd → Option RunEnd → Type 0
-SameEnd p None e = e ≡ None
-SameEnd p (Some (ideal.Stop c)) e = e ≡ Some (machine.Stop c)
-SameEnd p (Some (ideal.Halt f i)) e = e ≡ Some (machine.Halt (at p f i))
-SameEnd p (Some ideal.Starved) e = e ≡ Some machine.Starved
-SameEnd p (Some (ideal.BadChannel n)) e = e ≡ Some (machine.BadChannel n)
-SameEnd p (Some ideal.OutboxFull) e = e ≡ Some machine.OutboxFull
-SameEnd p (Some (ideal.Outside r f i)) e = ⊥
-SameEnd p (Some ideal.Running) e = ⊥
+-- what holds after the first step and n hops of a machine that starts in this state
+pub record Hop (p : Prog) (l : Layout) (frames : ℕ → ℕ) (limit need : ℕ) (inputs : Inputs) (begin : State) (n : ℕ) : Type 0 where
+  pub matched : Matches l (run p frames limit inputs n) (hops (is_between l) (step begin) n)
+  pub meant : Meant p l (run p frames limit inputs n) (hops (is_between l) (step begin) n)
+  pub pointer : InHop (IsAbove need) (is_between l) (step begin) n
+  pub code : KeepsCode l begin (hops (is_between l) (step begin) n)
 
--- the bytes of the store of which the symbolic run speaks: the data and the stack
-abbrev pub IsShared : Prog → ℕ → ℕ → Type 0
-IsShared p limit a = ((128 ≤ a) × (a < p.data_end)) ⊎ ((262112 - limit ≤ a) × (a < 262144))
+-- what a run is given, whose bytes are bytes and whose words are words, can be loaded with an executable of this file
+pub record CanStart (x : Exec) (file : List ℕ) (inputs : Inputs) : Type 0 where
+  pub bytes : IsOverBytes x file inputs
+  pub admitted : IsAdmitted inputs
+  pub fits : load_fault x file inputs ≡ None
 
-pub record Matches (p : Prog) (limit : ℕ) (s : Sym) (m : State) : Type 0 where
-  pub place : m.pc ≡ at p s.f s.i
-  pub regs : (r : ℕ) → AgreesQuad p (s.regs r) (m.regs r)
-  pub store : (a : ℕ) → IsShared p limit a → Agrees p (s.store a) (m.store a)
-  pub channels : (n : ℕ) → AgreesWord (s.channels n) (m.channels n)
-  pub update : AgreesUpdate s.update m.update
-  pub mail : m.mail ≡ s.mail
-  pub output : m.output ≡ s.output
-  pub ended : SameEnd p s.ended m.ended
-
--- the machine is at the word of the place that is meant
-abbrev pub Meant : Prog → Sym → State → Type 0
-Meant p s m = (x : SymInst) → instruction_at p s.f s.i ≡ Some x → IsWord p s.f s.i x (fetch m.store m.pc)
-
--- the first step, which is the start code's load of the stack pointer, and then n hops; in a flat image a hop is a step
-abbrev pub hops : Exec → List ℕ → ℕ → State
-hops x mail n = steps (n + 1) (starting.start x mail)
-
-pub record Hop (p : Prog) (limit need : ℕ) (x : Exec) (mail : List ℕ) (n : ℕ) : Type 0 where
-  pub matched : Matches p limit (run p limit mail n) (hops x mail n)
-  pub meant : Meant p (run p limit mail n) (hops x mail n)
-  pub pointer : 262112 - need ≤ word_of ((hops x mail n).regs 1) 0
-
-pub record Headline (p : Prog) (limit need : ℕ) (x : Exec) : Type 0 where
-  pub each : (mail : List ℕ) (n : ℕ) → IsInside p limit mail n → Hop p limit need x mail n
-  pub apart : AreDisjoint 128 (areas p limit) 262144
+pub record Headline (p : Prog) (l : Layout) (frames : ℕ → ℕ) (limit need : ℕ) (x : Exec) (file : List ℕ) : Type 0 where
+  pub each : (inputs : Inputs) → CanStart x file inputs → (n : ℕ) → IsInside p frames limit inputs n
+      → Hop p l frames limit need inputs (start x file inputs) n
+  pub apart : AreDisjoint DATA_START (areas l) STORE_SIZE

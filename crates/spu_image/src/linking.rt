@@ -5,34 +5,35 @@ ghost use Rattle.spu_lift.specs.FirstForm.{IsFirst};
 ghost use Rattle.spu_image.specs.declared.outcome.LinkFault.TheVariants.{NotBuilt};
 ghost use Rattle.spu_image.specs.Linking.{IsOneFirst, IsLinked};
 
+use crate::images::flat_exec;
 use crate::outcome::{LinkFault, LinkOptions, Linked};
-use spu_elf::{Object, Section, first_image, write_exec};
+use spu_elf::{Object, write_exec};
+use spu_layout::{lay_out, section_sizes};
 use spu_lift::{is_first, lift_first};
+use spu_plan::flat_plan;
 use spu_word::Seq;
 use std::alloc::Global;
 
-/// The one section of an object of the first form.
-fn text_section(object: &Object) -> &Section
-    requires { IsFirst object.now }
-    ensures { object.now.sections ≡ result.now ∷ [] }
-{
-    match object.sections.as_slice() {
-        [section] => section,
-        _ => unreachable!(),
-    }
-}
-
-/// The image of an object of the first form.
-fn link_first(alloc: Global, object: &Object) -> Result<Linked, LinkFault>
-    requires { IsFirst object.now }
-    ensures linked { IfOk result (IsLinked (object.now ∷ []) 16384) }
+/// The executable of an object of the first form.
+fn link_first(alloc: Global, object: &Object, limit: u32) -> Result<Linked, LinkFault>
+    requires first { IsFirst object.now }
+    requires limit { limit ≡ 16384 }
+    ensures linked { IfOk result (IsLinked (object.now ∷ []) limit) }
     ensures not_built { (k : ℕ) → result ≡ Err (NotBuilt k) → ⊥ }
 {
-    let section = text_section(object);
     let prog = lift_first(alloc, object)?;
-    let exec = first_image(alloc, section.bytes.as_slice())?;
+    let sizes = section_sizes(alloc, prog.code.as_slice())?;
+    let plan = flat_plan(alloc, prog.data_end as u32, sizes.as_slice())?;
+    let layout = lay_out(alloc, &prog, &plan, limit)?;
+    let exec = flat_exec(alloc, &prog, &layout, limit)?;
     let file = write_exec(alloc, &exec)?;
-    Ok(Linked { exec, file, prog })
+    Ok(Linked {
+        exec,
+        file,
+        prog,
+        plan,
+        layout,
+    })
 }
 
 /// Links objects to an executable whose entry function and stack size the options give. For now it links one object,
@@ -51,7 +52,7 @@ pub fn link(
 {
     match objects.as_slice() {
         [object] => if is_first(object) {
-            link_first(alloc, object)
+            link_first(alloc, object, options.limit)
         } else {
             Err(LinkFault::NotBuilt(0))
         },

@@ -3,7 +3,9 @@
 ghost use Rattle.std.specs.Prelude.{◌≡◌};
 
 use spu_elf::Exec;
+use spu_layout::Layout;
 use spu_lift::Prog;
+use spu_plan::Plan;
 use spu_word::{Bytes, Name, OutOfMemory};
 
 /// What a link is asked for.
@@ -15,12 +17,14 @@ pub struct LinkOptions {
     pub limit: u32,
 }
 
-/// What a link gives: the executable, its file, and the program that both stand for.
+/// What a link gives: the executable, its file, the program that both stand for, and where its functions lie.
 #[derive(Drop)]
 pub struct Linked {
     pub exec: Exec,
     pub file: Bytes,
     pub prog: Prog,
+    pub plan: Plan,
+    pub layout: Layout,
 }
 
 /// Why nothing was linked.

@@ -15,7 +15,6 @@ use Rattle.spu_isa.proofs.Decoded.{one_instruction_lem}
 use Rattle.spu_isa.proofs.Words.{in_range_from_Decodes}
 use Rattle.spu_elf.specs.declared.objects.Object.{Object}
 use Rattle.spu_elf.specs.declared.objects.Section.{Section}
-use Rattle.spu_elf.specs.Validity.{IsName}
 use Rattle.spu_lift.specs.declared.program.CodeSection.{CodeSection}
 use Rattle.spu_lift.specs.declared.program.Function.{Function}
 use Rattle.spu_lift.specs.declared.program.Operand.TheVariants as operand
@@ -25,6 +24,7 @@ use Rattle.spu_lift.specs.StartCode.{of_register, symbolic}
 use Rattle.spu_lift.specs.FirstForm.{MayStand, IsFirstSection, IsFirst}
 use Rattle.spu_lift.specs.First.{main_function, first_program, IsCodeOf, StandsFor}
 use Rattle.spu_lift.specs.Places.{instruction_at, taken_places}
+use Rattle.spu_lift.proofs.FirstValid.{main_is_name}
 use Rattle.spu_lift.specs.WellFormed.{IsCallee, needs_operand, IsRising, IsOperand, IsInstruction, IsFunction, AreApart, IsWellFormed}
 
 -- ---- the instructions of main
@@ -38,7 +38,7 @@ pub record IsFirstCode (code : List SymInst) : Type 0 where
   pub some : 1 ≤ length code
   pub each : (i : ℕ) (x : SymInst) → slice_get code i ≡ Some x → IsFirstPlace x
 
-first_code : (s : Section) (code : List SymInst) → IsFirstSection s → IsCodeOf s.bytes s.size code → IsFirstCode code
+pub first_code : (s : Section) (code : List SymInst) → IsFirstSection s → IsCodeOf s.bytes s.size code → IsFirstCode code
 first_code s code form words = record {
   some = (let count = words.count in let some = form.some in omega (arith, count, some));
   each = λ i x here. (
@@ -104,16 +104,6 @@ stop_formed p = record {
   empty = λ e. absurd (e refl);
   call = λ e. absurd (cc);
   pointer_call = λ e. absurd (cc);
-}
-
-abbrev Printed : ℕ → Type 0
-Printed c = (33 ≤ c) × (c ≤ 126)
-
-main_is_name : IsName (codes "main")
-main_is_name = record {
-  some = lit< tt;
-  short = lit< tt;
-  printed = All-cons Printed 109 (97 ∷ 105 ∷ 110 ∷ []) (lit≤ tt, lit≤ tt) (All-cons Printed 97 (105 ∷ 110 ∷ []) (lit≤ tt, lit≤ tt) (All-cons Printed 105 (110 ∷ []) (lit≤ tt, lit≤ tt) (All-cons Printed 110 [] (lit≤ tt, lit≤ tt) (All-nil Printed))));
 }
 
 -- ---- programs of the first form
@@ -197,7 +187,7 @@ module _ (name : List ℕ) (size : ℕ) (code : List SymInst) where
       ears = λ ear c. absurd (none_in ear c);
     }
 
-first_section : (t s : Section) → t ∷ [] ≡ s ∷ [] → t ≡ s
+pub first_section : (t s : Section) → t ∷ [] ≡ s ∷ [] → t ≡ s
 first_section t s e = cc
 
 pub first_formed : (o : Object) (q : Prog) → IsFirst o → StandsFor o q → IsWellFormed q

@@ -1,5 +1,5 @@
 -- A store and registers of zeros.
-use Rattle.std.proofs.Common.{◌≡◌, ℕ, zero, suc, List, [], get_or, replicate, refl, sym, ap, ap₂, ◌∙◌, None}
+use Rattle.std.proofs.Common.{◌≡◌, ℕ, zero, suc, List, [], get_or, replicate, refl, sym, ap, ◌∙◌}
 use Rattle.std.proofs.Common.{arith}
 use Rattle.std.proofs.lemmas.Bool.{cond-true, cond-false, lt-ltb, le-ltb}
 use Rattle.std.proofs.lemmas.Bool.Decides.{nat_tests}
@@ -9,7 +9,11 @@ use Rattle.spu_word.specs.declared.big_endian.Quad.{Quad}
 use Rattle.spu_exec.specs.Places.{code_mask}
 use Rattle.spu_ls.specs.Stores.{Store, bytes_of}
 use Rattle.spu_ls.specs.Machine.{State}
-use Rattle.spu_ls.specs.View.{regs_of, blank_state}
+use Rattle.spu_word.specs.declared.load.Area.{Area}
+use Rattle.spu_word.specs.declared.load.Inputs.{Inputs}
+use Rattle.spu_exec.specs.declared.transfers.Transfer.{Transfer}
+use Rattle.spu_ls.specs.View.{regs_of}
+use Rattle.spu_ls.specs.Start.{image_of, started, zero_registers}
 
 zero_at : (n k x : ℕ) → get_or (replicate n x) k x ≡ x
 zero_at zero k x = refl
@@ -27,15 +31,26 @@ reg_at (suc n) (suc k) q = reg_at n k q ∙ (let e : nat_lt k n ≡ nat_lt (suc 
 pub blank_regs : (xs : List Quad) (n : ℕ) (q : Quad) → xs ≡ replicate n q → regs_of xs ≡ λ k. if nat_lt k n then q.0 else []
 blank_regs xs n q e = fun_ext (λ k. ap (λ ys. regs_of ys k) e ∙ reg_at n k q)
 
-abbrev pub made : Store → (ℕ → List ℕ) → ℕ → (ℕ → ℕ) → List ℕ → List ℕ → State
-made m r p c mail output = record { store = m; regs = r; pc = p; channels = c; update = None; mail = mail; output = output; steps = 0; ended = None }
+-- a start is made of its parts
+abbrev pub made : ℕ → ℕ → Store → (ℕ → List ℕ) → ℕ → (ℕ → ℕ) → List Area → List ℕ → List ℕ → List Transfer → List ℕ → State
+made entry ea m r p c areas image mail queue output = record (started m entry (record { ea = ea; bytes = image }) areas mail) {
+  regs = r;
+  pc = p;
+  channels = c;
+  queue = queue;
+  output = output;
+}
 
-abbrev zeros : ℕ → List ℕ
-zeros = λ r. if nat_lt r 128 then replicate 16 0 else []
-
-pub blank_is : (entry : ℕ) (words : List ℕ) (store : Store) (regs : ℕ → List ℕ) (pc : ℕ) (channels : ℕ → ℕ) (mail output : List ℕ) →
-    store ≡ (λ k. 0) → regs ≡ (λ r. if nat_lt r 128 then replicate 16 0 else []) → pc ≡ code_mask entry → channels ≡ (λ n. 0) → mail ≡ words → output ≡ [] →
-    made store regs pc channels mail output ≡ blank_state entry words
-blank_is entry words store regs pc channels mail output a b c d e f =
-    ap (λ m. made m regs pc channels mail output) a ∙ ap (λ r. made (λ k. 0) r pc channels mail output) b ∙ ap (λ p. made (λ k. 0) zeros p channels mail output) c
-    ∙ ap (λ n. made (λ k. 0) zeros (code_mask entry) n mail output) d ∙ ap₂ (made (λ k. 0) zeros (code_mask entry) (λ n. 0)) e f
+pub blank_is : (entry : ℕ) (file : List ℕ) (inputs : Inputs) (store : Store) (regs : ℕ → List ℕ) (pc : ℕ) (channels : ℕ → ℕ) (areas : List Area) (image mail : List ℕ) (queue : List Transfer) (output : List ℕ) →
+    store ≡ (λ k. 0) → regs ≡ zero_registers → pc ≡ code_mask entry → channels ≡ (λ n. 0) → areas ≡ inputs.areas → image ≡ file → mail ≡ inputs.mail → queue ≡ [] → output ≡ [] →
+    made entry inputs.image_ea store regs pc channels areas image mail queue output ≡ started (λ k. 0) entry (image_of file inputs) inputs.areas inputs.mail
+blank_is entry file inputs store regs pc channels areas image mail queue output a b c d e f g h i =
+    ap (λ m. made entry inputs.image_ea m regs pc channels areas image mail queue output) a
+    ∙ ap (λ r. made entry inputs.image_ea (λ k. 0) r pc channels areas image mail queue output) b
+    ∙ ap (λ p. made entry inputs.image_ea (λ k. 0) zero_registers p channels areas image mail queue output) c
+    ∙ ap (λ n. made entry inputs.image_ea (λ k. 0) zero_registers (code_mask entry) n areas image mail queue output) d
+    ∙ ap (λ n. made entry inputs.image_ea (λ k. 0) zero_registers (code_mask entry) (λ k. 0) n image mail queue output) e
+    ∙ ap (λ n. made entry inputs.image_ea (λ k. 0) zero_registers (code_mask entry) (λ k. 0) inputs.areas n mail queue output) f
+    ∙ ap (λ n. made entry inputs.image_ea (λ k. 0) zero_registers (code_mask entry) (λ k. 0) inputs.areas file n queue output) g
+    ∙ ap (λ n. made entry inputs.image_ea (λ k. 0) zero_registers (code_mask entry) (λ k. 0) inputs.areas file inputs.mail n output) h
+    ∙ ap (λ n. made entry inputs.image_ea (λ k. 0) zero_registers (code_mask entry) (λ k. 0) inputs.areas file inputs.mail [] n) i

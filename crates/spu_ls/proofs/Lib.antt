@@ -4,4 +4,12 @@ pub mod Words
 pub mod Fields
 pub mod Running
 pub mod Blank
+pub mod Landed
+pub mod Misfits
 pub mod Starting
+pub mod Memories
+pub mod Sounding
+pub mod Beginning
+pub mod Unwritten
+pub mod Trials
+pub mod Registers

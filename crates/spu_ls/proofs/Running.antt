@@ -1,23 +1,37 @@
 -- Steps of a state that runs, and of one that has ended.
-use Rattle.std.proofs.Common.{◌≡◌, ℕ, zero, suc, ◌+◌, ◌-◌, ◌<◌, Option, Some, None, refl, sym, ap, ◌∙◌, subst, arith}
+use Rattle.std.proofs.Common.{◌≡◌, ℕ, zero, suc, ◌+◌, ◌-◌, ◌<◌, Option, Some, None, refl, sym, ap, ◌∙◌, arith, pos}
 use Rattle.spu_isa.specs.declared.instruction.Inst.{Inst}
+use Rattle.spu_isa.specs.declared.operation.Op.{Op}
+use Rattle.spu_isa.specs.declared.operation.Op.TheVariants as op
 use Rattle.spu_isa.specs.Table.{Decodes}
 use Rattle.spu_isa.specs.Decoding.{decoded}
-use Rattle.spu_isa.proofs.Decoded.{decodes_decoded, none_decoded}
+use Rattle.spu_isa.proofs.Decoded.{decodes_decoded, none_decoded, decoded_decodes}
+use Rattle.spu_isa.proofs.Words.{in_range_from_Decodes}
+use Rattle.spu_ls.specs.View.{HasRegisters}
+use Rattle.spu_ls.proofs.Fields.{has_registers}
 use Rattle.spu_ls.specs.Stores.{fetch}
-use Rattle.spu_ls.specs.Machine.{State, obeys, unless_ended, step, steps}
+use Rattle.spu_ls.specs.Machine.{State, counts, uses_channel, obeys, unless_ended, step, steps}
 use Rattle.spu_ls.specs.declared.ending.RunEnd.{RunEnd}
 
+-- the instruction that `decode` gives of a word, and that it gives none
+pub decoded_some : (w : ℕ) (x : Inst) → Decodes w x → decoded w ≡ Some x
+decoded_some w x d = decodes_decoded w x d
+
+pub decoded_none : (w : ℕ) → ((x : Inst) → Decodes w x → ⊥) → decoded w ≡ None
+decoded_none w none = none_decoded w none
+
+-- an instruction that a word is names registers
+pub registers_decoded : (w : ℕ) (x : Inst) → decoded w ≡ Some x → HasRegisters x
+registers_decoded w x e = has_registers x (in_range_from_Decodes w x (decoded_decodes w x e))
+
+pub zero_stops : decoded 0 ≡ Some (record { op = op.Stop; rt = 0; ra = 0; rb = 0; rc = 0; imm = pos 0 })
+unfolding decoded
+zero_stops = refl
+
 -- a step that runs does what its word says
-runs : (s : State) (o : Option Inst) → s.ended ≡ None → decoded (fetch s.store s.pc) ≡ o → step s ≡ obeys o s
+pub runs : (s : State) (o : Option Inst) → s.ended ≡ None → o ≡ decoded (fetch s.store s.pc) → step s ≡ obeys o s
 unfolding step
-runs s o going e = ap (λ n. unless_ended n s (obeys (decoded (fetch s.store s.pc)) s)) going ∙ ap (λ p. obeys p s) e
-
-pub word_obeyed : (s : State) (x : Inst) (w : ℕ) → s.ended ≡ None → w ≡ fetch s.store s.pc → Decodes w x → step s ≡ obeys (Some x) s
-word_obeyed s x w going at d = runs s (Some x) going (decodes_decoded (fetch s.store s.pc) x (subst (λ v. Decodes v x) at d))
-
-pub no_instruction : (s : State) (w : ℕ) → s.ended ≡ None → w ≡ fetch s.store s.pc → ((x : Inst) → Decodes w x → ⊥) → step s ≡ obeys None s
-no_instruction s w going at none = runs s None going (none_decoded (fetch s.store s.pc) (λ x d. none x (subst (λ v. Decodes v x) (sym at) d)))
+runs s o going e = ap (λ n. unless_ended n s (obeys (decoded (fetch s.store s.pc)) s)) going ∙ ap (λ p. obeys p s) (sym e)
 
 pub step_ended : (s : State) (e : RunEnd) → s.ended ≡ Some e → step s ≡ s
 unfolding step
@@ -38,3 +52,9 @@ steps_left b c s t l e =
 pub steps_none : (n : ℕ) (s : State) → n ≡ 0 → steps n s ≡ s
 unfolding steps
 steps_none n s e = ap (λ k. steps k s) e
+
+-- a channel instruction that neither writes nor reads counts
+pub counted : (o : Op) (x : Inst) (p : ℕ) (s : State) → (o ≡ op.Wrch → ⊥) → (o ≡ op.Rdch → ⊥) → uses_channel o x p s ≡ counts x.ra x.rt p s
+counted op.Wrch x p s w r = absurd (w refl)
+counted op.Rdch x p s w r = absurd (r refl)
+counted _ x p s w r = refl

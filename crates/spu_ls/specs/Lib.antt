@@ -1,6 +1,12 @@
 pub mod Stores
+pub mod Landing
 pub mod Machine
+pub mod Entries
 pub mod Start
 pub mod Ends
 pub mod View
 pub mod Loading
+pub mod Hops
+pub mod Loads
+pub mod Sound
+pub mod Kept

@@ -1,27 +1,113 @@
--- Which inputs a load takes, and which executables fit the local store.
-use Rattle.std.specs.Prelude.{◌≡◌, ℕ, ◌+◌, ◌%◌, ◌≤◌, ◌==◌, ◌&&◌, nat_le, not, Bool, List, length, slice_get, Option, Some}
-use Rattle.std.specs.List.{position}
+-- Which inputs a load takes, and what it refuses. The rules are this project's own.
+use Rattle.std.specs.Prelude.{◌≡◌, ℕ, ◌+◌, ◌*◌, ◌%◌, ◌^◌, ◌≤◌, ◌==◌, ◌&&◌, ◌||◌, nat_le, nat_lt, not, if◌then◌else◌, Bool, true, false, List, [], ◌∷◌, ◌++◌, length, slice_get, slice_index_or, Option, Some, None, option_map}
+use Rattle.std.specs.List.{position, list_any, list_all}
+use Rattle.std.specs.Str.{bytes_eq}
+use Rattle.spu_word.specs.declared.limits.TheConstants.{MAX_AREA_SIZE, MAX_AREAS, MAX_FILE_SIZE, MAX_MAIL, QUAD_SIZE, STORE_SIZE}
 use Rattle.spu_word.specs.declared.load.Area.{Area}
 use Rattle.spu_word.specs.declared.load.Inputs.{Inputs}
+use Rattle.spu_word.specs.declared.load.LoadFault.{LoadFault}
+use Rattle.spu_word.specs.declared.load.LoadFault.TheVariants.{UnresolvedName, AreasOverlap, AreaRange, SegmentRange}
+use Rattle.spu_elf.specs.declared.constants.TheConstants.{SEGMENT_ALIGN}
 use Rattle.spu_elf.specs.declared.executables.Segment.{Segment}
+use Rattle.spu_elf.specs.declared.objects.Symbol.{Symbol}
+use Rattle.spu_elf.specs.declared.objects.SymKind.TheVariants as kinds
+use Rattle.spu_elf.specs.declared.objects.SymPlace.TheVariants as places
+use Rattle.spu_elf.specs.declared.executables.Exec.{Exec}
+use Rattle.spu_exec.specs.Transfers.{Stretch, stretch_of}
+use Rattle.spu_ls.specs.Entries.{is_entry, area_name, image_place}
+use Rattle.spu_ls.specs.Start.{image_of}
+use Rattle.spu_ls.specs.declared.admission.Misfit.{Misfit}
+use Rattle.spu_ls.specs.declared.admission.Misfit.TheVariants as misfits
 
 -- no two areas have the same name
 abbrev pub AreDistinct : List Area → Type 0
 AreDistinct areas = (i j : ℕ) (a b : Area) → slice_get areas i ≡ Some a → slice_get areas j ≡ Some b → a.name ≡ b.name → i ≡ j
 
--- The executable's file lies at a multiple of 128 that is at most 2 ^ 64 - 2 ^ 23; there are at most 16 areas, whose names
--- differ, and at most 65,536 words of mail.
+-- the inputs that a load takes
 pub record IsAdmitted (i : Inputs) : Type 0 where
-  pub aligned : i.image_ea % 128 ≡ 0
-  pub near : i.image_ea ≤ 18446744073701163008
-  pub few : length i.areas ≤ 16
+  pub aligned : i.image_ea % SEGMENT_ALIGN ≡ 0
+  pub near : i.image_ea + 2 * MAX_FILE_SIZE ≤ 2 ^ 64
+  pub few : length i.areas ≤ MAX_AREAS
   pub distinct : AreDistinct i.areas
-  pub mail : length i.mail ≤ 65536
+  pub mail : length i.mail ≤ MAX_MAIL
 
--- a segment begins at a multiple of 16, and ends inside the local store
+-- the symbol and the area of an index that there is
+abbrev pub symbol_at : List Symbol → ℕ → Symbol
+symbol_at symbols k = slice_index_or symbols k (record { name = []; value = 0; size = 0; kind = kinds.Plain; global = false; place = places.Undefined })
+
+abbrev pub area_at : List Area → ℕ → Area
+area_at areas k = slice_index_or areas k (record { name = []; ea = 0; bytes = [] })
+
+-- M1: the first entry that has no area
+abbrev pub is_area : List Area → List ℕ → Bool
+is_area areas name = list_any (λ (a : Area). bytes_eq a.name name) areas
+
+abbrev pub is_unresolved : List Area → Symbol → Bool
+is_unresolved areas s = is_entry s && not (is_area areas (area_name s))
+
+abbrev pub first_unresolved : List Symbol → List Area → Option ℕ
+first_unresolved symbols areas = position (λ (s : Symbol). is_unresolved areas s) symbols
+
+-- M2: the first area that shares a byte with the file or with an area before it
+abbrev pub shares : Stretch → Stretch → Bool
+shares x y = nat_lt 0 (length x.bytes) && (nat_lt 0 (length y.bytes) && (nat_lt x.ea (y.ea + length y.bytes) && nat_lt y.ea (x.ea + length x.bytes)))
+
+abbrev pub overlaps : Stretch → List Area → Area → Bool
+overlaps image before a = shares (stretch_of a) image || list_any (λ (b : Area). shares (stretch_of a) (stretch_of b)) before
+
+abbrev pub first_overlap : Stretch → List Area → List Area → Option ℕ
+first_overlap image before [] = None
+first_overlap image before (a ∷ areas) = if overlaps image before a then Some (length before) else first_overlap image (before ++ a ∷ []) areas
+
+-- M3: the first area that is empty, too long, not at a multiple of 16, or passes 2 ^ 64
+abbrev pub is_in_range : Area → Bool
+is_in_range a = nat_lt 0 (length a.bytes) && (nat_le (length a.bytes) MAX_AREA_SIZE && ((a.ea % QUAD_SIZE == 0) && nat_le (a.ea + length a.bytes) (2 ^ 64)))
+
+abbrev pub first_unfit : List Area → Option ℕ
+first_unfit areas = position (λ (a : Area). not (is_in_range a)) areas
+
+-- M4: the first segment that does not begin at a multiple of 16 or end inside the local store
 abbrev pub is_in_store : Segment → Bool
-is_in_store s = (s.address % 16 == 0) && nat_le (s.address + length s.bytes) 262144
+is_in_store s = (s.address % QUAD_SIZE == 0) && nat_le (s.address + length s.bytes) STORE_SIZE
 
--- the first segment that does not
 abbrev pub first_outside : List Segment → Option ℕ
-first_outside segments = position (λ s. not (is_in_store s)) segments
+first_outside segments = position (λ (s : Segment). not (is_in_store s)) segments
+
+-- and where there is none, whether the quadwords that are filled in lie in the load segment, which is the first
+abbrev pub is_in_root : List Segment → ℕ → Bool
+is_in_root [] value = false
+is_in_root (r ∷ rs) value = nat_le r.address value && nat_le (value + QUAD_SIZE) (r.address + length r.bytes)
+
+abbrev pub is_entry_inside : List Segment → Symbol → Bool
+is_entry_inside segments s = not (is_entry s) || is_in_root segments s.value
+
+abbrev pub is_image_inside : List Segment → Option ℕ → Bool
+is_image_inside segments None = true
+is_image_inside segments (Some value) = is_in_root segments value
+
+abbrev pub are_inside : List Segment → List Symbol → Bool
+are_inside segments symbols = list_all (λ (s : Symbol). is_entry_inside segments s) symbols && is_image_inside segments (image_place symbols)
+
+-- the first of two answers
+abbrev pub or_else : Option Misfit → Option Misfit → Option Misfit
+or_else (Some m) other = Some m
+or_else None other = other
+
+-- the least of M1 to M4 that holds, at its first entry, area or segment
+abbrev pub misfit_of : Exec → List ℕ → Inputs → Option Misfit
+misfit_of x file i =
+    or_else (option_map misfits.Unresolved (first_unresolved x.symbols i.areas))
+    (or_else (option_map misfits.Overlap (first_overlap (image_of file i) [] i.areas))
+    (or_else (option_map misfits.OutOfRange (first_unfit i.areas))
+    (or_else (option_map misfits.Outside (first_outside x.segments))
+    (if are_inside x.segments x.symbols then None else Some (misfits.Outside 0)))))
+
+-- how it is told
+abbrev pub fault_of : Exec → Inputs → Misfit → LoadFault
+fault_of x i (misfits.Unresolved k) = UnresolvedName (area_name (symbol_at x.symbols k))
+fault_of x i (misfits.Overlap k) = AreasOverlap (area_at i.areas k).name
+fault_of x i (misfits.OutOfRange k) = AreaRange (area_at i.areas k).name
+fault_of x i (misfits.Outside k) = SegmentRange k
+
+abbrev pub load_fault : Exec → List ℕ → Inputs → Option LoadFault
+load_fault x file i = option_map (fault_of x i) (misfit_of x file i)

@@ -1,8 +1,12 @@
--- The state that a machine shows.
-use Rattle.std.specs.Prelude.{ℕ, ◌<◌, ◌==◌, ◌||◌, ◌&&◌, nat_le, nat_lt, ◌+◌, replicate, Bool, if◌then◌else◌, List, [], drop, slice_index_or, None}
+-- The state that a machine shows, and parts of its load and its steps.
+use Rattle.std.specs.Prelude.{◌≡◌, ℕ, true, ◌<◌, ◌≤◌, ◌==◌, ◌||◌, ◌&&◌, nat_le, ◌+◌, Bool, if◌then◌else◌, List, [], ◌∷◌, drop, slice_index_or, Option}
+use Rattle.spu_word.specs.declared.limits.TheConstants.{QUAD_SIZE, REGISTER_COUNT, STORE_SIZE}
 use Rattle.spu_word.specs.declared.big_endian.Quad.{Quad}
 use Rattle.spu_isa.specs.declared.instruction.Inst.{Inst}
-use Rattle.spu_exec.specs.Places.{code_mask}
+use Rattle.spu_elf.specs.declared.objects.Symbol.{Symbol}
+use Rattle.spu_exec.specs.declared.channels.TheConstants.{MFC_EAH, MFC_EAL, MFC_LSA, MFC_SIZE, MFC_TAG_ID, MFC_WR_TAG_MASK}
+use Rattle.spu_ls.specs.Entries.{is_entry, entries_of}
+use Rattle.spu_ls.specs.Start.{with_entries, with_image}
 use Rattle.spu_ls.specs.Stores.{bytes_of, placed}
 use Rattle.spu_ls.specs.Machine.{State, put_word}
 use Rattle.spu_ls.specs.declared.channels.ChannelWords.{ChannelWords}
@@ -15,12 +19,12 @@ regs_of quads = λ k. (slice_index_or quads k (record { 0 = [] })).0
 -- each channel's word
 abbrev pub words_of : ChannelWords → ℕ → ℕ
 words_of c = λ n.
-    if n == 16 then c.local
-    else (if n == 17 then c.effective_high
-    else (if n == 18 then c.effective_low
-    else (if n == 19 then c.size
-    else (if n == 20 then c.tag
-    else (if n == 22 then c.tag_mask
+    if n == MFC_LSA then c.local
+    else (if n == MFC_EAH then c.effective_high
+    else (if n == MFC_EAL then c.effective_low
+    else (if n == MFC_SIZE then c.size
+    else (if n == MFC_TAG_ID then c.tag
+    else (if n == MFC_WR_TAG_MASK then c.tag_mask
     else 0)))))
 
 abbrev pub state_of : Machine → State
@@ -30,29 +34,32 @@ state_of m = record {
   pc = m.pc;
   channels = words_of m.channels;
   update = m.update;
+  queue = m.queue.items;
+  areas = m.areas.items;
+  image = record { ea = m.image_ea; bytes = m.image.items };
   mail = drop m.taken m.mail.items;
   output = m.output.items;
   steps = m.steps;
   ended = m.ended;
 }
 
--- the start of an executable without a segment
-abbrev pub blank_state : ℕ → List ℕ → State
-blank_state entry mail = record {
-  store = λ k. 0;
-  regs = λ r. if nat_lt r 128 then replicate 16 0 else [];
-  pc = code_mask entry;
-  channels = λ n. 0;
-  update = None;
-  mail = mail;
-  output = [];
-  steps = 0;
-  ended = None;
-}
-
 -- bytes are placed in the store
 abbrev pub places : ℕ → List ℕ → State → State
 places at bytes s = record s { store = placed at bytes s.store }
+
+-- the quadword of a symbol is filled in if it is an entry, those of symbols one after another, and that of the file
+abbrev pub enters_all : List Symbol → State → State
+enters_all xs s = record s { store = with_entries (entries_of xs) s.areas s.store }
+
+abbrev pub enters : Symbol → State → State
+enters x s = enters_all (x ∷ []) s
+
+abbrev pub enters_image : Option ℕ → State → State
+enters_image place s = record s { store = with_image place s.image s.store }
+
+-- an entry whose quadword lies in the local store
+abbrev pub IsEntryInside : Symbol → Type 0
+IsEntryInside x = is_entry x ≡ true → x.value + QUAD_SIZE ≤ STORE_SIZE
 
 -- a word is kept on a channel
 abbrev pub keeps : ℕ → ℕ → ℕ → State → State
@@ -60,11 +67,11 @@ keeps n word p s = record s { channels = put_word n word s.channels; pc = p; ste
 
 -- the channels on which a word is only kept
 abbrev pub is_kept : ℕ → Bool
-is_kept n = (nat_le 16 n && nat_le n 20) || n == 22
+is_kept n = (nat_le MFC_LSA n && nat_le n MFC_TAG_ID) || n == MFC_WR_TAG_MASK
 
 -- each register field names a register
 pub record HasRegisters (x : Inst) : Type 0 where
-  pub rt : x.rt < 128
-  pub ra : x.ra < 128
-  pub rb : x.rb < 128
-  pub rc : x.rc < 128
+  pub rt : x.rt < REGISTER_COUNT
+  pub ra : x.ra < REGISTER_COUNT
+  pub rb : x.rb < REGISTER_COUNT
+  pub rc : x.rc < REGISTER_COUNT

@@ -1,67 +1,117 @@
 //! Machines that are loaded with an executable.
 
-ghost use Rattle.std.specs.Prelude.{◌≡◌, ◌≢◌, ◌↔◌, ℕ, ◌+◌, ◌^◌, ◌<◌, List, [], length, not, Some, None, Err, IfOk};
-ghost use Rattle.std.specs.Option.{option_copied};
+ghost use Rattle.std.specs.Prelude.{◌≡◌, ◌⊎◌, ◌<◌, ◌≤◌, length, drop, List, None, Some, Err, IfOk, IfErr};
 ghost use Rattle.spu_word.specs.declared.load.LoadFault.{LoadFault};
-ghost use Rattle.spu_word.specs.declared.load.LoadFault.TheVariants.{UnresolvedName, AreasOverlap, AreaRange, SegmentRange};
+ghost use Rattle.spu_word.specs.declared.load.LoadFault.TheVariants as faults;
 ghost use Rattle.spu_elf.specs.Spelling.{spell_exec};
 ghost use Rattle.spu_elf.specs.Validity.{IsValidExec};
-ghost use Rattle.spu_ls.specs.Loading.{IsAdmitted, is_in_store, first_outside};
+ghost use Rattle.spu_elf.specs.declared.constants.TheConstants.{MAX_SEGMENTS};
+ghost use Rattle.spu_ls.specs.declared.entries.TheConstants.{PREFIX_SIZE};
+ghost use Rattle.spu_ls.specs.Entries.{area_name};
+ghost use Rattle.spu_ls.specs.Loading.{symbol_at, area_at, IsAdmitted, first_outside, misfit_of, fault_of, load_fault};
 
+use crate::admission::{Misfit, misfit_of};
+use crate::entries::{area_name, image_place};
 use crate::stepping::Machine;
-use spu_elf::{Exec, Segment};
-use spu_word::{Inputs, LoadFault};
-use std::alloc::{AllocError, Global};
+use spu_elf::Exec;
+use spu_word::{Area, Inputs, LoadFault, OutOfMemory, Seq};
+use std::alloc::Global;
 
-/// Whether a segment begins at a multiple of 16 and ends inside the local store.
-fn is_in_store(segment: &Segment) -> bool
-    ensures { result ≡ is_in_store segment.now }
+/// The fault of an entry's name.
+fn unresolved(alloc: Global, x: &Exec, k: usize) -> LoadFault
+    requires inside { k < length x.now.symbols }
+    requires long { PREFIX_SIZE ≤ length (symbol_at x.now.symbols k).name }
+    ensures { (result ≡ faults.OutOfMemory) ⊎ (result ≡ faults.UnresolvedName (area_name (symbol_at x.now.symbols k))) }
 {
-    segment.address % 16 == 0 && segment.address as usize + segment.bytes.len() <= 262_144
+    match Seq::copied(alloc, area_name(&x.symbols.as_slice()[k])) {
+        Ok(name) => LoadFault::UnresolvedName(name),
+        Err(_) => LoadFault::OutOfMemory,
+    }
 }
 
-/// The index of the first segment that doesn't.
-fn first_outside(segments: &[Segment]) -> Option<usize>
-    ensures { result ≡ first_outside segments.now }
+/// The fault of an area that overlaps.
+fn overlap(alloc: Global, areas: &[Area], k: usize) -> LoadFault
+    requires { k < length areas.now }
+    ensures { (result ≡ faults.OutOfMemory) ⊎ (result ≡ faults.AreasOverlap (area_at areas.now k).name) }
 {
-    segments.iter().position(|s| !is_in_store(s))
+    match Seq::copied(alloc, areas[k].name.as_slice()) {
+        Ok(name) => LoadFault::AreasOverlap(name),
+        Err(_) => LoadFault::OutOfMemory,
+    }
+}
+
+/// The fault of an area out of range.
+fn out_of_range(alloc: Global, areas: &[Area], k: usize) -> LoadFault
+    requires { k < length areas.now }
+    ensures { (result ≡ faults.OutOfMemory) ⊎ (result ≡ faults.AreaRange (area_at areas.now k).name) }
+{
+    match Seq::copied(alloc, areas[k].name.as_slice()) {
+        Ok(name) => LoadFault::AreaRange(name),
+        Err(_) => LoadFault::OutOfMemory,
+    }
+}
+
+/// How a misfit is told, where there is memory for the name.
+fn refusal(alloc: Global, x: &Exec, file: &[u8], inputs: &Inputs, misfit: Misfit) -> LoadFault
+    requires misfit { misfit_of x.now file.now inputs.now ≡ Some misfit }
+    requires few { length x.now.segments ≤ MAX_SEGMENTS }
+    ensures { (result ≡ faults.OutOfMemory) ⊎ (result ≡ fault_of x.now inputs.now misfit) }
+{
+    match misfit {
+        Misfit::Unresolved(k) => unresolved(alloc, x, k),
+        Misfit::Overlap(k) => overlap(alloc, inputs.areas.as_slice(), k),
+        Misfit::OutOfRange(k) => out_of_range(alloc, inputs.areas.as_slice(), k),
+        Misfit::Outside(k) => LoadFault::SegmentRange(k as u32),
+    }
 }
 
 impl Machine {
     ghost use Rattle.spu_ls.specs.View.{state_of};
-    ghost use Rattle.spu_ls.specs.Start.{start};
+    ghost use Rattle.spu_ls.specs.Start.{image_of, loaded, start, started};
 
-    /// A machine at the start of an executable that fits.
-    #[tactic(auto, using(crate::proofs::Starting::started_with, crate::proofs::Starting::started_without))]
-    fn started(alloc: Global, x: &Exec, mail: &[u32]) -> Result<Machine, AllocError>
+    /// A blank machine with the load segment placed.
+    fn rooted(alloc: Global, x: &Exec, file: &[u8], inputs: &Inputs) -> Result<Machine, OutOfMemory>
         requires { first_outside x.now.segments ≡ None }
-        ensures { IfOk result (λ m. state_of m ≡ start x.now mail.now) }
+        ensures { IfOk result (λ m. state_of m ≡ started (loaded x.now.segments) x.now.entry (image_of file.now inputs.now) inputs.now.areas inputs.now.mail) }
     {
-        let mut machine = Machine::blank(alloc, x.entry, mail)?;
+        let mut machine = Machine::blank(alloc, x.entry, file, inputs)?;
         if let Some(root) = x.segments.get(0) {
             machine.place(root.address, root.bytes.as_slice());
         }
         Ok(machine)
     }
 
-    /// A machine at the start of an executable, whose inbound mailbox holds the words of mail. `file` is the executable's
-    /// file. For now there are no areas.
-    ///
-    /// `SegmentRange(k)` exactly where segment k is the first, of all, that doesn't begin at a multiple of 16 or that ends
-    /// outside the local store.
+    /// A machine at the start of an executable that fits.
+    #[tactic(auto, using(crate::proofs::Starting::started_is, crate::proofs::Misfits::entries_inside, crate::proofs::Misfits::image_inside))]
+    fn started(
+        alloc: Global,
+        x: &Exec,
+        file: &[u8],
+        inputs: &Inputs,
+    ) -> Result<Machine, OutOfMemory>
+        requires { misfit_of x.now file.now inputs.now ≡ None }
+        ensures { IfOk result (λ m. state_of m ≡ start x.now file.now inputs.now) }
+    {
+        let mut machine = Machine::rooted(alloc, x, file, inputs)?;
+        machine.enter_all(x.symbols.as_slice());
+        machine.enter_image(image_place(x.symbols.as_slice()));
+        Ok(machine)
+    }
+
+    /// A machine at the start of an executable, whose file this is, with areas and mail; or the least of the faults
+    /// `UnresolvedName`, `AreasOverlap`, `AreaRange` and `SegmentRange` that holds, at its first symbol, area or segment. Where no
+    /// segment is at fault but a quadword that is filled in doesn't lie in the load segment, that is `SegmentRange(0)`.
     pub fn load(alloc: Global, x: &Exec, file: &[u8], inputs: &Inputs) -> Result<Machine, LoadFault>
         requires valid { IsValidExec x.now }
         requires file { file.now ≡ spell_exec x.now }
         requires admitted { IsAdmitted inputs.now }
-        requires no_areas { inputs.now.areas ≡ [] }
-        ensures start { IfOk result (λ m. state_of m ≡ start x.now inputs.now.mail) }
-        ensures segment { (k : ℕ) → (result ≡ Err (SegmentRange k)) ↔ (first_outside x.now.segments ≡ Some k) }
-        ensures others { (name : List ℕ) → (result ≢ Err (UnresolvedName name)) × (result ≢ Err (AreasOverlap name)) × (result ≢ Err (AreaRange name)) }
+        ensures start { IfOk result (λ m. (load_fault x.now file.now inputs.now ≡ None) × (state_of m ≡ start x.now file.now inputs.now)) }
+        ensures fault { IfErr result (λ e. (e ≡ faults.OutOfMemory) ⊎ (load_fault x.now file.now inputs.now ≡ Some e)) }
     {
-        if let Some(k) = first_outside(x.segments.as_slice()) {
-            return Err(LoadFault::SegmentRange(k as u32));
+        if let Some(misfit) = misfit_of(x, file, inputs) {
+            return Err(refusal(alloc, x, file, inputs, misfit));
         }
-        match Machine::started(alloc, x, inputs.mail.as_slice()) {
+        match Machine::started(alloc, x, file, inputs) {
             Ok(machine) => Ok(machine),
             Err(_) => Err(LoadFault::OutOfMemory),
         }

@@ -1,8 +1,12 @@
 //! The machine and its steps.
 
-ghost use Rattle.std.specs.Prelude.{◌≡◌, ◌≢◌, ◌↔◌, ◌⊎◌, ◌+◌, ◌*◌, ◌%◌, ◌^◌, ◌<◌, ◌≤◌, ℕ, Bool, true, List, [], length, drop, vec_len, vec_capacity, IfOk, Option, Some, None};
+ghost use Rattle.std.specs.Prelude.{◌≡◌, ◌≢◌, ◌↔◌, ◌⊎◌, ◌+◌, ◌*◌, ◌/◌, ◌%◌, ◌^◌, ◌<◌, ◌≤◌, ℕ, true, false, List, [], ◌∷◌, slice_index_or, length, vec_len, vec_capacity, IfOk, IfSome, Option, Some, None};
 ghost use Rattle.spu_exec.specs.Places.{code_mask, place};
-ghost use Rattle.spu_exec.specs.Channels.{is_counted, count_of};
+ghost use Rattle.spu_word.specs.declared.limits.TheConstants.{OUTBOX_SIZE, QUAD_SIZE, QUEUE_SIZE, REGISTER_COUNT, STORE_SIZE, WORD_SIZE};
+ghost use Rattle.spu_exec.specs.declared.channels.TheConstants.{TAG_COUNT};
+ghost use Rattle.spu_exec.specs.Channels.{count_of as count_in_table};
+ghost use Rattle.spu_exec.specs.Transfers.{form_of};
+ghost use Rattle.spu_exec.specs.Tags.{is_landing, IsWaiting, AllWaiting};
 ghost use Rattle.spu_word.specs.Bytes.{word_of};
 ghost use Rattle.spu_isa.specs.declared.operation.Kind.{Kind};
 ghost use Rattle.spu_isa.specs.declared.operation.Kind.TheVariants as kind;
@@ -12,22 +16,31 @@ ghost use Rattle.spu_ls.specs.declared.ending.RunEnd.{RunEnd};
 ghost use Rattle.spu_ls.specs.Ends.{is_end};
 ghost use Rattle.spu_ls.specs.declared.ending.RunEnd.TheVariants as ending;
 
-use crate::channels::{ChannelWords, is_kept};
+use crate::channels::ChannelWords;
 use crate::ending::{RunEnd, Tick};
+use crate::entries::{area_name, image_quad, is_entry, quad_for};
+use crate::kept::Kept;
+use crate::landing::{get_from, put_to};
 use crate::local_store::{preferred, put_bytes, put_quad, quad_at, word_at};
-use spu_exec::{address, apply, halts, test};
-use spu_isa::{Inst, Kind, Op, decode, info};
-use spu_word::{Area, Quad, word};
-use std::alloc::{AllocError, Global};
+use spu_elf::Symbol;
+use spu_exec::channels::{
+    INBOX_SIZE, MFC_CMD, MFC_EAH, MFC_EAL, MFC_LSA, MFC_RD_TAG_MASK, MFC_RD_TAG_STAT, MFC_SIZE,
+    MFC_TAG_ID, MFC_WR_TAG_MASK, MFC_WR_TAG_UPDATE, SPU_RD_IN_MBOX, SPU_WR_OUT_MBOX, TAG_COUNT,
+    count_of, is_counted, is_update,
+};
+use spu_exec::{
+    Form, Transfer, address, apply_to, form_of, halts, is_landing, is_taken, status, test,
+};
+use spu_isa::{Inst, Kind, Op, decode};
+use spu_word::limits::{OUTBOX_SIZE, QUEUE_SIZE, REGISTER_COUNT, STORE_SIZE, WORD_SIZE};
+use spu_word::{Area, Inputs, OutOfMemory, Quad, Seq, word};
+use std::alloc::Global;
 
-/// The bytes of the local store.
-const STORE_SIZE: usize = 262_144;
+/// The words of the local store.
+const WORD_COUNT: u32 = STORE_SIZE / WORD_SIZE;
 
-/// How many registers there are.
-const REGISTERS: usize = 128;
-
-/// How many words the outbound mailbox holds.
-const OUTBOX_SIZE: usize = 65_536;
+/// How many tags there are, as the size of an array.
+const TAGS: usize = TAG_COUNT as usize;
 
 /// An SPU: its local store, registers and channels. It is loaded with an executable and takes no memory after that.
 #[derive(Drop)]
@@ -36,86 +49,172 @@ pub struct Machine {
     regs: Vec<Quad>,
     pc: u32,
     channels: ChannelWords,
-    /// The tag update that no read of channel 24 has answered.
+    /// The tag update that no read of the tag status has answered.
     update: Option<u32>,
+    /// The transfers that wait, the oldest first.
+    queue: Vec<Transfer>,
+    /// The named areas of effective memory.
+    areas: Vec<Area>,
+    /// The effective address of the executable's file, and the file.
+    image_ea: u64,
+    image: Vec<u8>,
     mail: Vec<u32>,
     /// How many words of `mail` were read.
     taken: usize,
     output: Vec<u32>,
     steps: u64,
     ended: Option<RunEnd>,
-    ghost full: { vec_len store ≡ 262144 },
-    ghost all_registers: { vec_len regs ≡ 128 },
-    ghost inside: { pc + 4 ≤ 262144 },
+    /// For each word of the local store a word that stood there, with its instruction.
+    kept: Vec<Kept>,
+    ghost all_words: { vec_len kept ≡ STORE_SIZE / WORD_SIZE },
+    ghost full: { vec_len store ≡ STORE_SIZE },
+    ghost all_registers: { vec_len regs ≡ REGISTER_COUNT },
+    ghost queue_room: { QUEUE_SIZE ≤ vec_capacity queue },
+    ghost few_wait: { vec_len queue ≤ QUEUE_SIZE },
+    ghost waiting: { AllWaiting queue.items },
+    ghost inside: { pc + WORD_SIZE ≤ STORE_SIZE },
     ghost within: { taken ≤ vec_len mail },
-    ghost room: { 65536 ≤ vec_capacity output },
-    ghost not_over: { vec_len output ≤ 65536 },
+    ghost room: { OUTBOX_SIZE ≤ vec_capacity output },
+    ghost not_over: { vec_len output ≤ OUTBOX_SIZE },
     ghost end: { is_end ended ≡ true },
 }
 
 /// The word of local store in which an address lies.
-pub fn code_word(address: u32) -> u32
+fn code_word(address: u32) -> u32
     ensures value { result ≡ code_mask address }
-    ensures inside { result + 4 ≤ 262144 }
+    ensures inside { result + WORD_SIZE ≤ STORE_SIZE }
 {
-    address / 4 % 0x1_0000 * 4
+    address / WORD_SIZE % WORD_COUNT * WORD_SIZE
 }
 
-/// Whether `rchcnt` gives a count of a channel.
-fn is_counted(channel: u8) -> bool
-    ensures { result ≡ is_counted channel }
+/// Copies of areas.
+fn copied_areas(alloc: Global, areas: &[Area]) -> Result<Vec<Area>, OutOfMemory>
+    ensures { IfOk result (λ v. v.items ≡ areas.now) }
 {
-    matches!(channel, 12 | 16..=24 | 28 | 29)
+    let mut all = Vec::new(alloc);
+    for a in areas {
+        all.push(Area {
+            name: Seq::copied(alloc, a.name.as_slice())?,
+            ea: a.ea,
+            bytes: Seq::copied(alloc, a.bytes.as_slice())?,
+        })?;
+    }
+    Ok(all)
+}
+
+/// For each tag, whether transfers with it land where the status is read.
+fn landing_tags(update: u32, mask: u32, queue: &[Transfer]) -> [bool; TAGS]
+    requires { AllWaiting queue.now }
+    ensures { (tag : ℕ) → tag < TAG_COUNT → slice_index_or result tag false ≡ is_landing update mask queue.now tag }
+{
+    let mut tags = [false; TAGS];
+    for tag in 0..TAG_COUNT {
+        tags[tag as usize] = is_landing(update, mask, queue, tag);
+    }
+    tags
 }
 
 impl Machine {
-    ghost use Rattle.spu_ls.specs.View.{state_of, HasRegisters, blank_state, places, keeps, is_kept};
+    ghost use Rattle.spu_ls.specs.View.{state_of, HasRegisters, places, keeps, is_kept, enters, enters_all, enters_image, IsEntryInside};
+    ghost use Rattle.spu_ls.specs.Kept.{inst_of};
+    ghost use Rattle.spu_ls.specs.declared.kept.Kept.{Kept};
+    ghost use Rattle.std.specs.Option.{option_map};
+    ghost use Rattle.std.specs.List.{All};
     ghost use Rattle.spu_ls.specs.Ends.{end_of, tick_of};
-    ghost use Rattle.spu_ls.specs.Machine.{State, steps, step, obeys, acts, uses_channel, counts, reads, takes, answers, writes, updates, sends, saves, ends, sets, goes, is_pending};
-    ghost use Rattle.spu_ls.specs.Stores.{placed};
-    ghost use Rattle.spu_ls.specs.Start.{start};
+    ghost use Rattle.spu_ls.specs.Machine.{State, steps, step, obeys, acts, uses_channel, counts, reads, takes, answers, writes, updates, sends, saves, ends, sets, goes, is_pending, lands, lands_tags, makes_room, commands};
+    ghost use Rattle.spu_ls.specs.Stores.{Store, placed, fetch};
+    ghost use Rattle.spu_ls.specs.Start.{image_of, started};
 
-    /// A machine whose store, registers and channels are zero.
-    pub(super) fn blank(alloc: Global, entry: u32, mail: &[u32]) -> Result<Machine, AllocError>
-        ensures { IfOk result (λ m. state_of m ≡ blank_state entry mail.now) }
+    /// A machine whose store, registers and channels are zero, with areas, the executable's file and mail.
+    pub(super) fn blank(
+        alloc: Global,
+        entry: u32,
+        file: &[u8],
+        inputs: &Inputs,
+    ) -> Result<Machine, OutOfMemory>
+        ensures { IfOk result (λ m. state_of m ≡ started (λ k. 0) entry (image_of file.now inputs.now) inputs.now.areas inputs.now.mail) }
     {
-        let store = vec![in alloc; 0; STORE_SIZE]?;
-        let regs = vec![in alloc; Quad([0; 16]); REGISTERS]?;
-        let mail = Vec::from_slice(alloc, mail)?;
-        let output = Vec::with_capacity(alloc, OUTBOX_SIZE)?;
+        let store = vec![in alloc; 0; STORE_SIZE as usize]?;
+        let regs = vec![in alloc; Quad([0; 16]); REGISTER_COUNT as usize]?;
+        let queue = Vec::with_capacity(alloc, QUEUE_SIZE as usize)?;
+        let areas = copied_areas(alloc, inputs.areas.as_slice())?;
+        let image = Vec::from_slice(alloc, file)?;
+        let mail = Vec::from_slice(alloc, inputs.mail.as_slice())?;
+        let output = Vec::with_capacity(alloc, OUTBOX_SIZE as usize)?;
+        let kept = vec![in alloc; Kept::stopping(); WORD_COUNT as usize]?;
         Ok(Machine {
             store,
             regs,
             pc: code_word(entry),
             channels: ChannelWords::zero(),
             update: None,
+            queue,
+            areas,
+            image_ea: inputs.image_ea,
+            image,
             mail,
             taken: 0,
             output,
             steps: 0,
             ended: None,
+            kept,
         })
     }
 
     /// Places bytes in the local store of a machine.
     pub(super) fn place(&mut self, address: u32, bytes: &[u8])
-        requires { address + length bytes.now ≤ 262144 }
+        requires { address + length bytes.now ≤ STORE_SIZE }
         ensures { state_of self.new ≡ places address bytes.now (state_of self.old) }
     {
         put_bytes(&mut self.store, address as usize, bytes);
     }
 
+    /// Fills in the quadword of a symbol, if it is an entry.
+    fn enter(&mut self, s: &Symbol)
+        requires { IsEntryInside s.now }
+        ensures { state_of self.new ≡ enters s.now (state_of self.old) }
+    {
+        if is_entry(s) {
+            if let Some(quad) = quad_for(&self.areas, area_name(s)) {
+                self.place(s.value, &quad.0);
+            }
+        }
+    }
+
+    /// Fills in the quadwords of all entries.
+    pub(super) fn enter_all(&mut self, symbols: &[Symbol])
+        requires { All IsEntryInside symbols.now }
+        ensures { state_of self.new ≡ enters_all symbols.now (state_of self.old) }
+    {
+        for k in 0..symbols.len() {
+            self.enter(&symbols[k]);
+        }
+    }
+
+    /// Fills in the quadword that tells where the executable's file lies, at a place.
+    pub(super) fn enter_image(&mut self, place: Option<u32>)
+        requires { IfSome place (λ at. at + QUAD_SIZE ≤ STORE_SIZE) }
+        ensures { state_of self.new ≡ enters_image place (state_of self.old) }
+    {
+        if let Some(at) = place {
+            let quad = image_quad(self.image_ea);
+            self.place(at, &quad.0);
+        }
+    }
+
     /// The quad of a register.
+    #[inline(always)]
     fn quad(&self, r: u8) -> &Quad
-        requires { r < 128 }
+        requires { r < REGISTER_COUNT }
         ensures { result.now.0 ≡ (state_of self.now).regs r }
     {
         &self.regs[r as usize]
     }
 
     /// The run goes on at a place.
+    #[inline(always)]
     fn go(&mut self, to: u32)
-        requires place { to + 4 ≤ 262144 }
+        requires place { to + WORD_SIZE ≤ STORE_SIZE }
         requires count { self.old.steps + 1 < 2 ^ 64 }
         ensures exact { state_of self.new ≡ goes to (state_of self.old) }
         ensures count { self.new.steps ≡ self.old.steps + 1 }
@@ -125,9 +224,10 @@ impl Machine {
     }
 
     /// The run goes on at a place with another quad in a register.
+    #[inline(always)]
     fn set(&mut self, r: u8, quad: Quad, to: u32)
-        requires register { r < 128 }
-        requires place { to + 4 ≤ 262144 }
+        requires register { r < REGISTER_COUNT }
+        requires place { to + WORD_SIZE ≤ STORE_SIZE }
         requires count { self.old.steps + 1 < 2 ^ 64 }
         ensures exact { state_of self.new ≡ sets r quad.0 to (state_of self.old) }
         ensures count { self.new.steps ≡ self.old.steps + 1 }
@@ -138,10 +238,11 @@ impl Machine {
     }
 
     /// The run goes on at a place with a register's quad at an address.
+    #[inline(always)]
     fn save(&mut self, at: u32, r: u8, to: u32)
-        requires register { r < 128 }
-        requires at { at + 16 ≤ 262144 }
-        requires place { to + 4 ≤ 262144 }
+        requires register { r < REGISTER_COUNT }
+        requires at { at + QUAD_SIZE ≤ STORE_SIZE }
+        requires place { to + WORD_SIZE ≤ STORE_SIZE }
         requires count { self.old.steps + 1 < 2 ^ 64 }
         ensures exact { state_of self.new ≡ saves at r to (state_of self.old) }
         ensures count { self.new.steps ≡ self.old.steps + 1 }
@@ -163,12 +264,12 @@ impl Machine {
 
     /// Writes a word to the outbound mailbox.
     fn send(&mut self, word: u32, to: u32)
-        requires place { to + 4 ≤ 262144 }
+        requires place { to + WORD_SIZE ≤ STORE_SIZE }
         requires count { self.old.steps + 1 < 2 ^ 64 }
         ensures exact { state_of self.new ≡ sends word to (state_of self.old) }
         ensures count { self.new.steps ≡ self.old.steps + 1 }
     {
-        if self.output.len() == OUTBOX_SIZE {
+        if self.output.len() == OUTBOX_SIZE as usize {
             self.end(RunEnd::OutboxFull);
         } else {
             let _ = self.output.push(word);
@@ -176,25 +277,25 @@ impl Machine {
         }
     }
 
-    /// Asks for the status of the tags, by 0, 1 or 2.
+    /// Asks for an update of the tag status.
     fn ask(&mut self, word: u32, to: u32)
-        requires place { to + 4 ≤ 262144 }
+        requires place { to + WORD_SIZE ≤ STORE_SIZE }
         requires count { self.old.steps + 1 < 2 ^ 64 }
         ensures exact { state_of self.new ≡ updates word to (state_of self.old) }
         ensures count { self.new.steps ≡ self.old.steps + 1 }
     {
-        if word < 3 {
+        if is_update(word) {
             self.update = Some(word);
             self.go(to);
         } else {
-            self.end(RunEnd::BadChannel(23));
+            self.end(RunEnd::BadChannel(MFC_WR_TAG_UPDATE));
         }
     }
 
     /// Keeps a word that is written to a channel.
-    fn keep(&mut self, channel: u8, word: u32, to: u32)
+    fn keep(&mut self, channel: u32, word: u32, to: u32)
         requires channel { is_kept channel ≡ true }
-        requires place { to + 4 ≤ 262144 }
+        requires place { to + WORD_SIZE ≤ STORE_SIZE }
         requires count { self.old.steps + 1 < 2 ^ 64 }
         ensures exact { state_of self.new ≡ keeps channel word to (state_of self.old) }
         ensures count { self.new.steps ≡ self.old.steps + 1 }
@@ -203,26 +304,83 @@ impl Machine {
         self.go(to);
     }
 
+    /// A transfer that waits lands, but stays in the queue.
+    fn land(&mut self, t: &Transfer)
+        requires { IsWaiting t.now }
+        ensures exact { state_of self.new ≡ lands (t.now ∷ []) (state_of self.old) }
+        ensures queue { self.new.queue ≡ self.old.queue }
+        ensures count { self.new.steps ≡ self.old.steps }
+    {
+        match t.form {
+            Form::Put => put_to(&mut self.areas, &self.store, t),
+            Form::Get => get_from(&mut self.store, self.image_ea, &self.image, &self.areas, t),
+        }
+    }
+
+    /// The first transfer lands, where no other can wait.
+    fn make_room(&mut self)
+        ensures exact { state_of self.new ≡ makes_room (state_of self.old) }
+        ensures room { vec_len self.new.queue < QUEUE_SIZE }
+        ensures count { self.new.steps ≡ self.old.steps }
+    {
+        if self.queue.len() == QUEUE_SIZE as usize {
+            let t = self.queue.remove(0);
+            self.land(&t);
+        }
+    }
+
+    /// Judges the command that a word and the channels say, and lets its transfer wait.
+    fn command(&mut self, word: u32, to: u32)
+        requires place { to + WORD_SIZE ≤ STORE_SIZE }
+        requires count { self.old.steps + 1 < 2 ^ 64 }
+        ensures exact { state_of self.new ≡ commands (form_of word) to (state_of self.old) }
+        ensures count { self.new.steps ≡ self.old.steps + 1 }
+    {
+        match form_of(word) {
+            Some(form) => self.judge(form, to),
+            None => self.end(RunEnd::TransferFault),
+        }
+    }
+
+    /// Judges a command of this form, and lets its transfer wait.
+    fn judge(&mut self, form: Form, to: u32)
+        requires place { to + WORD_SIZE ≤ STORE_SIZE }
+        requires count { self.old.steps + 1 < 2 ^ 64 }
+        ensures exact { state_of self.new ≡ commands (Some form) to (state_of self.old) }
+        ensures count { self.new.steps ≡ self.old.steps + 1 }
+    {
+        let t = self.channels.transfer(form);
+        if is_taken(&t, self.image_ea, &self.image, &self.areas) {
+            self.make_room();
+            let _ = self.queue.push(t);
+            self.go(to);
+        } else {
+            self.end(RunEnd::TransferFault);
+        }
+    }
+
     /// Writes a word to a channel.
-    fn write(&mut self, channel: u8, word: u32, to: u32)
-        requires place { to + 4 ≤ 262144 }
+    fn write(&mut self, channel: u32, word: u32, to: u32)
+        requires place { to + WORD_SIZE ≤ STORE_SIZE }
         requires count { self.old.steps + 1 < 2 ^ 64 }
         ensures exact { state_of self.new ≡ writes channel word to (state_of self.old) }
         ensures count { self.new.steps ≡ self.old.steps + 1 }
     {
         match channel {
-            28 => self.send(word, to),
-            23 => self.ask(word, to),
-            21 => self.end(RunEnd::TransferFault),
-            16..=20 | 22 => self.keep(channel, word, to),
-            _ => self.end(RunEnd::BadChannel(u32::from(channel))),
+            SPU_WR_OUT_MBOX => self.send(word, to),
+            MFC_WR_TAG_UPDATE => self.ask(word, to),
+            MFC_CMD => self.command(word, to),
+            MFC_LSA | MFC_EAH | MFC_EAL | MFC_SIZE | MFC_TAG_ID | MFC_WR_TAG_MASK => {
+                self.keep(channel, word, to)
+            }
+            _ => self.end(RunEnd::BadChannel(channel)),
         }
     }
 
     /// Takes the next word of the inbound mailbox.
     fn take(&mut self, r: u8, to: u32)
-        requires register { r < 128 }
-        requires place { to + 4 ≤ 262144 }
+        requires register { r < REGISTER_COUNT }
+        requires place { to + WORD_SIZE ≤ STORE_SIZE }
         requires count { self.old.steps + 1 < 2 ^ 64 }
         ensures exact { state_of self.new ≡ takes (state_of self.old).mail r to (state_of self.old) }
         ensures count { self.new.steps ≡ self.old.steps + 1 }
@@ -236,55 +394,77 @@ impl Machine {
         }
     }
 
+    /// The transfers with these tags land, in order, and leave the queue.
+    fn land_tags(&mut self, tags: [bool; TAGS])
+        ensures exact { state_of self.new ≡ lands_tags (λ tag. slice_index_or tags tag false) (state_of self.old) }
+        ensures count { self.new.steps ≡ self.old.steps }
+    {
+        let mut i = 0;
+        while i < self.queue.len() {
+            let t = self.queue[i];
+            if tags[t.tag as usize] {
+                let _ = self.queue.remove(i);
+                self.land(&t);
+            } else {
+                i += 1;
+            }
+        }
+    }
+
     /// Takes the status of the tags.
     fn answer(&mut self, r: u8, to: u32)
-        requires register { r < 128 }
-        requires place { to + 4 ≤ 262144 }
+        requires register { r < REGISTER_COUNT }
+        requires place { to + WORD_SIZE ≤ STORE_SIZE }
         requires count { self.old.steps + 1 < 2 ^ 64 }
         ensures exact { state_of self.new ≡ answers (state_of self.old).update r to (state_of self.old) }
         ensures count { self.new.steps ≡ self.old.steps + 1 }
     {
         match self.update {
-            Some(_) => {
+            Some(update) => {
+                let mask = self.channels.tag_mask;
+                let tags = landing_tags(update, mask, &self.queue);
+                self.land_tags(tags);
                 self.update = None;
-                self.set(r, preferred(self.channels.tag_mask), to);
+                let left = status(mask, &self.queue);
+                self.set(r, preferred(left), to);
             }
-            None => self.end(RunEnd::BadChannel(24)),
+            None => self.end(RunEnd::BadChannel(MFC_RD_TAG_STAT)),
         }
     }
 
     /// Reads a channel.
-    fn read(&mut self, channel: u8, r: u8, to: u32)
-        requires register { r < 128 }
-        requires place { to + 4 ≤ 262144 }
+    fn read(&mut self, channel: u32, r: u8, to: u32)
+        requires register { r < REGISTER_COUNT }
+        requires place { to + WORD_SIZE ≤ STORE_SIZE }
         requires count { self.old.steps + 1 < 2 ^ 64 }
         ensures exact { state_of self.new ≡ reads channel r to (state_of self.old) }
         ensures count { self.new.steps ≡ self.old.steps + 1 }
     {
         match channel {
-            29 => self.take(r, to),
-            24 => self.answer(r, to),
-            12 => self.set(r, preferred(self.channels.tag_mask), to),
-            _ => self.end(RunEnd::BadChannel(u32::from(channel))),
+            SPU_RD_IN_MBOX => self.take(r, to),
+            MFC_RD_TAG_STAT => self.answer(r, to),
+            MFC_RD_TAG_MASK => self.set(r, preferred(self.channels.tag_mask), to),
+            _ => self.end(RunEnd::BadChannel(channel)),
         }
     }
 
     /// The count of a channel.
-    fn count(&self, channel: u8) -> u32
-        ensures { result ≡ count_of channel (is_pending (state_of self.now).update) 0 (length (state_of self.now).mail) }
+    fn count(&self, channel: u32) -> u32
+        ensures { result ≡ count_in_table channel (is_pending (state_of self.now).update) (length (state_of self.now).queue) (length (state_of self.now).mail) }
     {
-        match channel {
-            21 => 16,
-            24 => u32::from(self.update.is_some()),
-            29 => (self.mail.len() - self.taken).min(4) as u32,
-            _ => 1,
-        }
+        let left = (self.mail.len() - self.taken).min(INBOX_SIZE as usize);
+        count_of(
+            channel,
+            self.update.is_some(),
+            self.queue.len() as u32,
+            left as u32,
+        )
     }
 
     /// Gives the count of a channel.
-    fn give_count(&mut self, channel: u8, r: u8, to: u32)
-        requires register { r < 128 }
-        requires place { to + 4 ≤ 262144 }
+    fn give_count(&mut self, channel: u32, r: u8, to: u32)
+        requires register { r < REGISTER_COUNT }
+        requires place { to + WORD_SIZE ≤ STORE_SIZE }
         requires count { self.old.steps + 1 < 2 ^ 64 }
         ensures exact { state_of self.new ≡ counts channel r to (state_of self.old) }
         ensures count { self.new.steps ≡ self.old.steps + 1 }
@@ -292,58 +472,68 @@ impl Machine {
         if is_counted(channel) {
             self.set(r, preferred(self.count(channel)), to);
         } else {
-            self.end(RunEnd::BadChannel(u32::from(channel)));
+            self.end(RunEnd::BadChannel(channel));
         }
     }
 
     /// Does what a channel instruction says.
     fn use_channel(&mut self, x: &Inst, to: u32)
         requires fields { HasRegisters x.now }
-        requires place { to + 4 ≤ 262144 }
+        requires place { to + WORD_SIZE ≤ STORE_SIZE }
         requires count { self.old.steps + 1 < 2 ^ 64 }
         ensures exact { state_of self.new ≡ uses_channel x.now.op x.now to (state_of self.old) }
         ensures count { self.new.steps ≡ self.old.steps + 1 }
     {
         match x.op {
-            Op::Wrch => self.write(x.ra, word(self.quad(x.rt), 0), to),
-            Op::Rdch => self.read(x.ra, x.rt, to),
-            _ => self.give_count(x.ra, x.rt, to),
+            Op::Wrch => self.write(u32::from(x.ra), word(self.quad(x.rt), 0), to),
+            Op::Rdch => self.read(u32::from(x.ra), x.rt, to),
+            _ => self.give_count(u32::from(x.ra), x.rt, to),
         }
     }
 
     /// The address that an instruction reads or writes, or the place that it goes to.
     #[tactic(auto, using(crate::proofs::Fields::load_fits, crate::proofs::Fields::store_fits, crate::proofs::Fields::place_inside))]
+    #[inline(always)]
     fn address(&self, x: &Inst) -> u32
         requires fields { HasRegisters x.now }
         requires kind { ((row_of x.now.op).kind ≡ kind.Load) ⊎ ((row_of x.now.op).kind ≡ kind.Store) ⊎ ((row_of x.now.op).kind ≡ kind.Branch) ⊎ ((row_of x.now.op).kind ≡ kind.Call) ⊎ ((row_of x.now.op).kind ≡ kind.Indirect) ⊎ ((row_of x.now.op).kind ≡ kind.PointerCall) }
         ensures value { result ≡ place x.now self.now.pc ((state_of self.now).regs x.now.ra) ((state_of self.now).regs x.now.rb) }
-        ensures load { (row_of x.now.op).kind ≡ kind.Load → result + 16 ≤ 262144 }
-        ensures store { (row_of x.now.op).kind ≡ kind.Store → result + 16 ≤ 262144 }
-        ensures inside { result + 4 ≤ 262144 }
+        ensures load { (row_of x.now.op).kind ≡ kind.Load → result + QUAD_SIZE ≤ STORE_SIZE }
+        ensures store { (row_of x.now.op).kind ≡ kind.Store → result + QUAD_SIZE ≤ STORE_SIZE }
+        ensures inside { result + WORD_SIZE ≤ STORE_SIZE }
     {
         address(x, self.pc, self.quad(x.ra), self.quad(x.rb))
     }
 
+    /// Does what a computing instruction says.
+    #[inline(always)]
+    fn compute(&mut self, x: &Inst, next: u32)
+        requires kind { (row_of x.now.op).kind ≡ kind.Compute }
+        requires fields { HasRegisters x.now }
+        requires place { next + WORD_SIZE ≤ STORE_SIZE }
+        requires count { self.old.steps + 1 < 2 ^ 64 }
+        ensures exact { state_of self.new ≡ acts kind.Compute x.now next (state_of self.old) }
+        ensures count { self.new.steps ≡ self.old.steps + 1 }
+    {
+        let a = *self.quad(x.ra);
+        let b = *self.quad(x.rb);
+        let c = *self.quad(x.rc);
+        apply_to(x, &a, &b, &c, &mut self.regs[x.rt as usize]);
+        self.go(next);
+    }
+
     /// Does what an instruction of a kind says, where `next` is the place after it.
+    #[inline(always)]
     fn act(&mut self, kind: Kind, x: &Inst, next: u32)
         requires kind { kind ≡ (row_of x.now.op).kind }
         requires fields { HasRegisters x.now }
-        requires place { next + 4 ≤ 262144 }
+        requires place { next + WORD_SIZE ≤ STORE_SIZE }
         requires count { self.old.steps + 1 < 2 ^ 64 }
         ensures exact { state_of self.new ≡ acts kind x.now next (state_of self.old) }
         ensures count { self.new.steps ≡ self.old.steps + 1 }
     {
         match kind {
-            Kind::Compute => {
-                let quad = apply(
-                    x,
-                    self.quad(x.ra),
-                    self.quad(x.rb),
-                    self.quad(x.rc),
-                    self.quad(x.rt),
-                );
-                self.set(x.rt, quad, next);
-            }
+            Kind::Compute => self.compute(x, next),
             Kind::Load => {
                 let quad = quad_at(&self.store, self.address(x) as usize);
                 self.set(x.rt, quad, next);
@@ -373,27 +563,62 @@ impl Machine {
         }
     }
 
-    /// Does what an instruction says.
-    fn obey(&mut self, x: &Inst)
-        requires fields { HasRegisters x.now }
+    /// Does what a kept instruction says.
+    #[inline(always)]
+    fn obey(&mut self, kept: Kept)
+        requires fields { HasRegisters (inst_of kept) }
         requires count { self.old.steps + 1 < 2 ^ 64 }
-        ensures exact { state_of self.new ≡ obeys (Some x.now) (state_of self.old) }
+        ensures exact { state_of self.new ≡ obeys (Some (inst_of kept)) (state_of self.old) }
         ensures count { self.new.steps ≡ self.old.steps + 1 }
     {
-        let next = code_word(self.pc + 4);
-        self.act(info(x.op).kind, x, next);
+        let next = code_word(self.pc + WORD_SIZE);
+        let x = kept.inst();
+        self.act(kept.kind(), &x, next);
+    }
+
+    /// Keeps the instruction of the word at pc, if it is one.
+    #[cold]
+    #[inline(never)]
+    #[tactic(auto, using(crate::proofs::Running::decoded_some, crate::proofs::Running::decoded_none))]
+    fn keep_decoded(&mut self, word: u32)
+        ensures kept { (d : Kept) → ((slice_index_or self.new.kept.items (self.new.pc / WORD_SIZE) d).word ≡ word) ⊎ (decoded word ≡ None) }
+        ensures same { state_of self.new ≡ state_of self.old }
+        ensures count { self.new.steps ≡ self.old.steps }
+    {
+        if let Some(inst) = decode(word) {
+            self.kept[(self.pc / WORD_SIZE) as usize] = Kept::of(word, &inst);
+        }
+    }
+
+    /// The instruction of the word at pc. Only a word that was not met at this place is decoded.
+    #[inline(always)]
+    #[tactic(auto, using(crate::proofs::Running::registers_decoded))]
+    fn instruction(&mut self) -> Option<Kept>
+        ensures registers { IfSome result (λ k. HasRegisters (inst_of k)) }
+        ensures value { option_map inst_of result ≡ decoded (fetch (state_of self.old).store (state_of self.old).pc) }
+        ensures same { state_of self.new ≡ state_of self.old }
+        ensures count { self.new.steps ≡ self.old.steps }
+    {
+        let word = word_at(&self.store, self.pc as usize);
+        let at = (self.pc / WORD_SIZE) as usize;
+        if self.kept[at].word != word {
+            self.keep_decoded(word);
+        }
+        let kept = self.kept[(self.pc / WORD_SIZE) as usize];
+        if kept.word == word { Some(kept) } else { None }
     }
 
     /// One step of a machine that hasn't ended.
-    #[tactic(auto, using(crate::proofs::Fields::has_registers, crate::proofs::Running::word_obeyed, crate::proofs::Running::no_instruction))]
+    #[tactic(auto, using(crate::proofs::Running::runs))]
+    #[inline(always)]
     fn advance(&mut self)
         requires running { self.old.ended ≡ None }
         requires count { self.old.steps + 1 < 2 ^ 64 }
         ensures exact { state_of self.new ≡ step (state_of self.old) }
         ensures count { self.new.steps ≡ self.old.steps + 1 }
     {
-        match decode(word_at(&self.store, self.pc as usize)) {
-            Some(x) => self.obey(&x),
+        match self.instruction() {
+            Some(kept) => self.obey(kept),
             None => self.end(RunEnd::BadInstruction(self.pc)),
         }
     }
@@ -442,11 +667,18 @@ impl Machine {
         &self.output
     }
 
-    /// The areas as they are now. For now there are none.
+    /// The areas as they are now.
     pub fn areas(&self) -> &[Area]
-        ensures { result.now ≡ [] }
+        ensures { result.now ≡ (state_of self.now).areas }
     {
-        &[]
+        &self.areas
+    }
+
+    /// How many transfers wait.
+    pub fn waiting(&self) -> u32
+        ensures { result ≡ length (state_of self.now).queue }
+    {
+        self.queue.len() as u32
     }
 
     /// How many steps were begun, the one that ended the run among them.

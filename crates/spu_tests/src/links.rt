@@ -57,8 +57,16 @@ fn linked(alloc: Global, words: u32) -> Result<Linked, LinkFault> {
 
 #[test]
 fn links_16384_words(rt: HostRuntime) -> Result<(), Fail> {
-    let Linked { exec, file, .. } = linked(rt.alloc(), 16_384).ok().ok_or("linked")?;
+    let Linked {
+        exec,
+        file,
+        layout,
+        ..
+    } = linked(rt.alloc(), 16_384).ok().ok_or("linked")?;
     assert_eq!(rt; exec.entry, 144);
+    let areas = layout.areas();
+    assert_eq!(rt; (areas.data_area.to, areas.code.to), (128, 160 + 65_536));
+    assert_eq!(rt; (areas.stack.from, areas.stack.to), (245_728, 262_144));
     let root = exec.segments.get(0).ok_or("a segment")?;
     assert_eq!(rt; (root.address, root.bytes.len()), (128, 32 + 65_536));
     assert_eq!(rt; root.bytes.get(65_564), Some(&0x35));

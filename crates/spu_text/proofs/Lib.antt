@@ -1,5 +1,6 @@
-pub mod NumberSteps
-pub mod ScanSteps
-pub mod LineSteps
 pub mod FrontSteps
+pub mod LexemeSteps
+pub mod LineSteps
+pub mod NumberSteps
 pub mod OrderSteps
+pub mod ScanSteps

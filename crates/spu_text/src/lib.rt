@@ -2,6 +2,7 @@
 #![tactic(auto)]
 
 mod lexemes;
+mod line;
 mod lines;
 mod numbers;
 mod scanning;
@@ -9,4 +10,5 @@ mod scanning;
 mod tests;
 
 pub use lexemes::{TextFault, Token, TokenKind};
+pub use line::{Piece, first_line, read_line};
 pub use lines::{Front, front_tokens, line_count, tokens};

@@ -32,14 +32,14 @@ fn body_len(text: &[u8]) -> usize
 }
 
 /// Whether a text may have each of the bytes.
-fn is_source(bytes: &[u8]) -> bool
+pub(crate) fn is_source(bytes: &[u8]) -> bool
     ensures { result ≡ list_all is_source_byte bytes.now }
 {
     bytes.iter().all(|b| is_source_byte(*b))
 }
 
 /// How many bytes the first line has, with its end.
-fn line_len(text: &[u8]) -> usize
+pub(crate) fn line_len(text: &[u8]) -> usize
     requires { length text.now < 2 ^ 32 }
     ensures len { result ≡ line_len text.now }
     ensures within { result ≤ length text.now }
@@ -50,7 +50,7 @@ fn line_len(text: &[u8]) -> usize
 
 /// A line without its end.
 #[tactic(auto, unfolding(crate::specs::Texts::content))]
-fn content(line: &[u8]) -> &[u8]
+pub(crate) fn content(line: &[u8]) -> &[u8]
     requires { length line.now < 2 ^ 32 }
     ensures value { result.now ≡ content line.now }
     ensures within { length result.now ≤ length line.now }

@@ -11,7 +11,7 @@ use crate::numbers::word_kind;
 use spu_word::Seq;
 
 #[tactic(auto, unfolding(crate::specs::Texts::is_space))]
-fn is_space(b: u8) -> bool
+pub(crate) fn is_space(b: u8) -> bool
     ensures { result ≡ is_space b }
 {
     b == b'\t' || b == b'\r' || b == b' '
@@ -53,7 +53,7 @@ fn word_len(bytes: &[u8]) -> usize
 
 /// The token at the front of the bytes, the first of which is no space and no `#`, and its length.
 #[tactic(auto, unfolding(crate::specs::Texts::piece_of))]
-fn piece_of(bytes: &[u8]) -> (Option<TokenKind>, usize)
+pub(crate) fn piece_of(bytes: &[u8]) -> (Option<TokenKind>, usize)
     requires some { 0 < length bytes.now }
     requires small { length bytes.now < 2 ^ 32 }
     ensures kind { result.0 ≡ (piece_of bytes.now).kind }
@@ -78,7 +78,7 @@ fn piece_of(bytes: &[u8]) -> (Option<TokenKind>, usize)
 }
 
 /// Whether no token is left on the line.
-fn is_over(rest: &[u8]) -> bool
+pub(crate) fn is_over(rest: &[u8]) -> bool
     ensures over { result ≡ is_over rest.now }
     ensures some { result ≡ false → 0 < length rest.now }
 {

@@ -1,23 +1,36 @@
 -- What the words ask for has its inputs, and sound options.
-use Rattle.std.proofs.Common.{◌≡◌, ℕ, ◌+◌, ◌==◌, ◌≤◌, lit≤, Bool, true, false, List, [], ◌∷◌, ◌++◌, length, map, Option, Some, None, Result, Ok, Err, refl, subst, ap, arith, unwrap_or, option_map}
-use Rattle.std.specs.Prelude.{◌&&◌, nat_lt, nat_le, if◌then◌else◌}
+use Rattle.std.proofs.Common.{◌≡◌, ℕ, ◌+◌, ◌==◌, ◌≤◌, lit≤, Bool, true, false, List, [], ◌∷◌, ◌++◌, length, map, Option, Some, None, Result, Ok, Err, refl, sym, subst, ap, ◌∙◌, ◌%◌, ◌<◌, suc, arith, unwrap_or, option_map}
+use Rattle.std.specs.Prelude.{◌&&◌, not, nat_lt, nat_le, if◌then◌else◌}
 use Rattle.std.specs.List.{list_all}
 use Rattle.std.proofs.lemmas.Bool.Decides.{nat_tests}
-use Rattle.std.proofs.lemmas.List.{length-map}
-use Rattle.spu_word.specs.declared.limits.TheConstants.{MAX_MAIL}
+use Rattle.std.proofs.lemmas.Bool.{and_parts, leb-true, ltb-true}
+use Rattle.std.proofs.lemmas.List.{length-append, length-map}
+use Rattle.spu_word.specs.declared.limits.TheConstants.{MAX_AREAS, MAX_MAIL}
 use Rattle.spu_tool.specs.declared.options.OptionName.{OptionName}
-use Rattle.spu_tool.specs.declared.options.OptionName.TheVariants.{Steps, Mail}
+use Rattle.spu_tool.specs.declared.options.OptionName.TheVariants.{Steps, Mail, Area, Image}
 use Rattle.spu_tool.specs.declared.options.Options.{Options}
 use Rattle.spu_tool.specs.declared.command.Command.{Command}
 use Rattle.spu_tool.specs.declared.command.Command.TheVariants.{Assemble, Link, Run}
-use Rattle.spu_tool.specs.Numbers.{word_of}
+use Rattle.spu_tool.specs.Numbers.{bounded, number_of, number_within, word_of}
 use Rattle.spu_tool.specs.Lists.{members_of, is_word, words_of, mail_of}
-use Rattle.spu_tool.specs.Options.{AreSound, once, with_steps, with_mail, run_options, option_named, cut_at}
-use Rattle.spu_tool.specs.Arguments.{Given, Asked, giving, with_option, with_named, with_parts, name_and_value, is_option, with_operand, with_word, with_words, nothing_given, of_two, asked_by, or_missing, asked_with, asked_after, asked, most_operands, has_option, command_named}
+use Rattle.spu_tool.specs.Cutting.{cut_at}
+use Rattle.spu_tool.specs.Areas.{ArePlaced, AreaParts, area_word, has_room, is_placed, place_of}
+use Rattle.spu_tool.specs.Options.{AreSound, once, with_steps, with_mail, with_place, with_image, if_aligned, image_of, run_options, option_named}
+use Rattle.spu_tool.specs.Arguments.{Given, Asked, giving, with_area, with_option, with_named, with_parts, name_and_value, is_option, with_operand, with_word, with_words, nothing_given, of_two, asked_by, or_missing, asked_with, asked_after, asked, most_operands, has_option, command_named}
+use Rattle.spu_tool.specs.declared.areas.AreaPlace.{AreaPlace}
+use Rattle.spu_tool.specs.declared.options.TheConstants.{MAX_IMAGE}
+use Rattle.spu_elf.specs.declared.constants.TheConstants.{SEGMENT_ALIGN}
 use Rattle.spu_tool.specs.Makes.{IsComplete}
+use Rattle.spu_tool.proofs.Places.{one_more, not_true}
 
-abbrev Sound : Given → Type 0
-Sound given = AreSound (run_options given.options)
+-- the options are sound, and each area has a file
+record Sound (given : Given) : Type 0 where
+  options : AreSound (run_options given.options)
+  files : length given.files ≡ length given.options.places
+
+-- other options of the same areas
+re_sound : (given : Given) (o : Options) → Sound given → AreSound (run_options o) → o.places ≡ given.options.places → Sound (record given { options = o })
+re_sound given o h sound same = record { options = sound; files = h.files ∙ ap length (sym same) }
 
 -- ---- what a result says of what it came from
 
@@ -46,15 +59,71 @@ mail_few list mail e = step (nat_le (length (members_of list)) MAX_MAIL && list_
         subst (λ (m : List ℕ). length m ≤ MAX_MAIL) same (omega (arith, size, few))
     step false all is = absurd (cc)
 
+aligned_is : (o : Option ℕ) (n : ℕ) → if_aligned o ≡ Some n → (o ≡ Some n) × (n % SEGMENT_ALIGN ≡ 0)
+aligned_is None n e = absurd (cc)
+aligned_is (Some m) n e = step (m % SEGMENT_ALIGN == 0) refl e
+  where
+    step : (b : Bool) → (m % SEGMENT_ALIGN == 0) ≡ b → (if b then Some m else None) ≡ Some n → (Some m ≡ Some n) × (n % SEGMENT_ALIGN ≡ 0)
+    step true is e' =
+        let same : m ≡ n = cc in
+        let zero : m % SEGMENT_ALIGN ≡ 0 = grind (arith, nat_tests, is) in
+        (ap Some same, subst (λ k. k % SEGMENT_ALIGN ≡ 0) same zero)
+    step false is e' = absurd (cc)
+
+within_is : (most : ℕ) (o : Option ℕ) (n : ℕ) → bounded most o ≡ Some n → n ≤ most
+within_is most None n e = absurd (cc)
+within_is most (Some m) n e = step (nat_le m most) refl e
+  where
+    step : (b : Bool) → nat_le m most ≡ b → (if b then Some m else None) ≡ Some n → n ≤ most
+    step true is e' = let same : m ≡ n = cc in let le : m ≤ most = leb-true m most is in subst (λ k. k ≤ most) same le
+    step false is e' = absurd (cc)
+
+area_sound : (given : Given) (a : Option AreaParts) (g : Given) → with_area given a ≡ Some g → Sound given → Sound g
+area_sound given None g e h = absurd (cc)
+area_sound given (Some a) g e h = step (has_room given.options.places a.name) refl e
+  where
+    step : (b : Bool) → has_room given.options.places a.name ≡ b
+        → (if b then Some (record given { files = given.files ++ a.file ∷ []; options = with_place given.options a.name a.ea }) else None) ≡ Some g → Sound g
+    step true is e' =
+        let same : record given { files = given.files ++ a.file ∷ []; options = with_place given.options a.name a.ea } ≡ g = cc in
+        let both = and_parts (nat_lt (length given.options.places) MAX_AREAS) (not (is_placed given.options.places a.name)) is in
+        let less : length given.options.places < MAX_AREAS = ltb-true (length given.options.places) MAX_AREAS both.0 in
+        let more = length-append given.options.places (place_of a.name a.ea ∷ []) in
+        let files = length-append given.files (a.file ∷ []) in
+        let old = h.files in
+        subst Sound same (record {
+          options = record {
+            mail = h.options.mail;
+            few = omega arith;
+            placed = one_more given.options.places (place_of a.name a.ea) h.options.placed (not_true (is_placed given.options.places a.name) both.1);
+            aligned = h.options.aligned;
+            near = h.options.near;
+          };
+          files = omega arith;
+        })
+    step false is e' = absurd (cc)
+
 option_sound : (given : Given) (name : OptionName) (value : List ℕ) (g : Given) → with_option given name value ≡ Some g → Sound given → Sound g
 option_sound given Steps value g e h =
     let o = mapped (λ (x : Options). record given { options = x }) (with_steps given.options value) g e in
     let n = mapped (λ (k : ℕ). record given.options { steps = Some k }) (once given.options.steps (word_of value)) o.0 o.1 in
-    subst Sound o.2 (subst (λ (x : Options). AreSound (run_options x)) n.2 (record { mail = h.mail }))
+    subst Sound (ap (λ (x : Options). record given { options = x }) n.2 ∙ o.2)
+    (re_sound given (record given.options { steps = Some n.0 }) h
+    (record { mail = h.options.mail; few = h.options.few; placed = h.options.placed; aligned = h.options.aligned; near = h.options.near }) refl)
 option_sound given Mail value g e h =
     let o = mapped (λ (x : Options). record given { options = x }) (with_mail given.options value) g e in
     let m = mapped (λ (ws : List ℕ). record given.options { mail = Some ws }) (once given.options.mail (mail_of value)) o.0 o.1 in
-    subst Sound o.2 (subst (λ (x : Options). AreSound (run_options x)) m.2 (record { mail = mail_few value m.0 (once_is given.options.mail (mail_of value) m.0 m.1) }))
+    subst Sound (ap (λ (x : Options). record given { options = x }) m.2 ∙ o.2)
+    (re_sound given (record given.options { mail = Some m.0 }) h
+    (record { mail = mail_few value m.0 (once_is given.options.mail (mail_of value) m.0 m.1); few = h.options.few; placed = h.options.placed; aligned = h.options.aligned; near = h.options.near }) refl)
+option_sound given Area value g e h = area_sound given (area_word value) g e h
+option_sound given Image value g e h =
+    let o = mapped (λ (x : Options). record given { options = x }) (with_image given.options value) g e in
+    let n = mapped (λ (k : ℕ). record given.options { image = Some k }) (once given.options.image (image_of value)) o.0 o.1 in
+    let a = aligned_is (number_within MAX_IMAGE value) n.0 (once_is given.options.image (image_of value) n.0 n.1) in
+    subst Sound (ap (λ (x : Options). record given { options = x }) n.2 ∙ o.2)
+    (re_sound given (record given.options { image = Some n.0 }) h
+    (record { mail = h.options.mail; few = h.options.few; placed = h.options.placed; aligned = a.1; near = within_is MAX_IMAGE (number_of value) n.0 a.0 }) refl)
 
 named_sound : (command : Command) (given : Given) (name : Option OptionName) (value : List ℕ) (g : Given) → with_named command given name value ≡ Some g → Sound given → Sound g
 named_sound command given None value g e h = absurd (cc)
@@ -64,7 +133,7 @@ operand_sound : (command : Command) (given : Given) (word : List ℕ) (g : Given
 operand_sound command given word g e h = step (nat_lt (length given.operands) (most_operands command)) e
   where
     step : (b : Bool) → (if b then Some (record given { operands = given.operands ++ word ∷ [] }) else None) ≡ Some g → Sound g
-    step true is = let same : record given { operands = given.operands ++ word ∷ [] } ≡ g = cc in subst Sound same (record { mail = h.mail })
+    step true is = let same : record given { operands = given.operands ++ word ∷ [] } ≡ g = cc in subst Sound same (record { options = h.options; files = h.files })
     step false is = absurd (cc)
 
 word_sound : (command : Command) (given : Given) (word : List ℕ) (g : Given) → with_word command given word ≡ Some g → Sound given → Sound g
@@ -100,16 +169,22 @@ one name = lit≤ tt
 by_command : (command : Command) (given : Given) (r : Asked) → Sound given → asked_by command given ≡ Some r → Complete r
 by_command Assemble given r h e = let t = two_is _ _ _ r e in subst Complete t.2 (one t.0)
 by_command Link given r h e = let t = two_is _ _ _ r e in subst Complete t.2 (one t.1)
-by_command Run given r h e = let t = mapped _ _ r e in subst Complete t.2 (one t.0, h)
+by_command Run given r h e = let t = mapped _ _ r e in subst Complete t.2 (omega (arith, h.files), h.options)
 
 asked_is : (o : Option Asked) (n : ℕ) (r : Asked) → or_missing o n ≡ Ok r → o ≡ Some r
 asked_is None n r e = absurd (cc)
 asked_is (Some a) n r e = let same : a ≡ r = cc in ap Some same
 
+nothing_sound : Sound nothing_given
+nothing_sound = record { options = record { mail = lit≤ tt; few = lit≤ tt; placed = λ i j p q a b same. absurd (no p a); aligned = refl; near = lit≤ tt }; files = refl }
+  where
+    no : (p : AreaPlace) → None ≡ Some p → ⊥
+    no p e = cc
+
 given_complete : (command : Command) (words : List (List ℕ)) (x : Result Given ℕ) (r : Asked) → with_words command nothing_given 2 words ≡ x → asked_with command (length words + 2) x ≡ Ok r → Complete r
 given_complete command words (Err n) r is e = absurd (cc)
 given_complete command words (Ok given) r is e =
-    by_command command given r (words_sound command nothing_given 2 words given is (record { mail = lit≤ tt })) (asked_is (asked_by command given) (length words + 2) r e)
+    by_command command given r (words_sound command nothing_given 2 words given is nothing_sound) (asked_is (asked_by command given) (length words + 2) r e)
 
 after_complete : (command : Option Command) (words : List (List ℕ)) (r : Asked) → asked_after command words ≡ Ok r → Complete r
 after_complete None words r e = absurd (cc)

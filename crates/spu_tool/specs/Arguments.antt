@@ -8,7 +8,7 @@ use Rattle.spu_io.specs.NameTable.{pointed_to}
 use Rattle.spu_tool.specs.declared.command.Command.{Command}
 use Rattle.spu_tool.specs.declared.command.Command.TheVariants.{Assemble, Link, Run}
 use Rattle.spu_tool.specs.declared.options.OptionName.{OptionName}
-use Rattle.spu_tool.specs.declared.options.OptionName.TheVariants.{Steps, Mail}
+use Rattle.spu_tool.specs.declared.options.OptionName.TheVariants.{Steps, Mail, Area, Image}
 use Rattle.spu_tool.specs.declared.options.Options.{Options}
 use Rattle.spu_tool.specs.declared.options.RunOptions.{RunOptions}
 use Rattle.spu_tool.specs.declared.arguments.ParseFault.{ParseFault}
@@ -16,7 +16,9 @@ use Rattle.spu_tool.specs.declared.arguments.ParseFault.TheVariants as faults
 use Rattle.spu_tool.specs.declared.request.Request.{Request}
 use Rattle.spu_tool.specs.declared.request.Action.{Action}
 use Rattle.spu_tool.specs.declared.request.Action.TheVariants as action
-use Rattle.spu_tool.specs.Options.{cut_at, option_named, no_options, with_steps, with_mail, run_options}
+use Rattle.spu_tool.specs.Cutting.{cut_at}
+use Rattle.spu_tool.specs.Areas.{AreaParts, area_word, has_room}
+use Rattle.spu_tool.specs.Options.{option_named, no_options, with_steps, with_mail, with_place, with_image, run_options}
 
 -- ---- the commands
 
@@ -39,24 +41,36 @@ has_option Assemble name = false
 has_option Link name = false
 has_option Run Steps = true
 has_option Run Mail = true
+has_option Run Area = true
+has_option Run Image = true
 
 -- ---- the words after a command
 
--- those that were read: the operands and the options
+-- those that were read: the operands, the files of areas, and the options
 pub record Given : Type 0 where
   pub operands : List (List ℕ)
+  pub files : List (List ℕ)
   pub options : Options
 
 abbrev pub nothing_given : Given
-nothing_given = record { operands = []; options = no_options }
+nothing_given = record { operands = []; files = []; options = no_options }
 
 abbrev pub giving : Given → Option Options → Option Given
 giving given options = option_map (λ o. record given { options = o }) options
+
+-- an area whose name none before has, with its file
+abbrev pub with_area : Given → Option AreaParts → Option Given
+with_area given None = None
+with_area given (Some a) =
+    if has_room given.options.places a.name
+    then Some (record given { files = given.files ++ a.file ∷ []; options = with_place given.options a.name a.ea }) else None
 
 -- an option with its value, one line each
 abbrev pub with_option : Given → OptionName → List ℕ → Option Given
 with_option given Steps value = giving given (with_steps given.options value)
 with_option given Mail value = giving given (with_mail given.options value)
+with_option given Area value = with_area given (area_word value)
+with_option given Image value = giving given (with_image given.options value)
 
 -- an option is one that the command has
 abbrev pub with_named : Command → Given → Option OptionName → List ℕ → Option Given
@@ -127,14 +141,15 @@ asked_link operands =
     of_two (slice_get operands 0) (slice_get operands 1)
     (λ output input. record { inputs = input ∷ []; output = Some output; action = action.Link })
 
-abbrev pub asked_run : List (List ℕ) → RunOptions → Option Asked
-asked_run operands options =
-    option_map (λ input. record { inputs = input ∷ []; output = None; action = action.Run options }) (slice_get operands 0)
+-- the executable is read, and then the files of areas
+abbrev pub asked_run : List (List ℕ) → List (List ℕ) → RunOptions → Option Asked
+asked_run operands files options =
+    option_map (λ input. record { inputs = input ∷ files; output = None; action = action.Run options }) (slice_get operands 0)
 
 abbrev pub asked_by : Command → Given → Option Asked
 asked_by Assemble given = asked_assemble given.operands
 asked_by Link given = asked_link given.operands
-asked_by Run given = asked_run given.operands (run_options given.options)
+asked_by Run given = asked_run given.operands given.files (run_options given.options)
 
 -- where words are missing the fault is behind the last
 abbrev pub or_missing : Option Asked → ℕ → Result Asked ℕ

@@ -5,6 +5,8 @@ use Rattle.spu_asm.specs.declared.faults.AsmKind.{AsmKind}
 use Rattle.spu_asm.specs.declared.faults.AsmKind.TheVariants as asm
 use Rattle.spu_elf.specs.declared.faults.ElfKind.{ElfKind}
 use Rattle.spu_elf.specs.declared.faults.ElfKind.TheVariants as elf
+use Rattle.spu_word.specs.declared.load.LoadFault.{LoadFault}
+use Rattle.spu_word.specs.declared.load.LoadFault.TheVariants as loads
 
 abbrev pub asm_name : AsmKind → List ℕ
 asm_name asm.NotAscii = codes "A1 NotAscii"
@@ -43,6 +45,13 @@ elf_line kind file offset = elf_name kind ++ codes " " ++ file ++ codes " " ++ d
 abbrev pub form_line : List ℕ → List ℕ
 form_line file = codes "L0 NotBuilt " ++ file ++ codes "\n"
 
--- a segment that doesn't lie in the local store
-abbrev pub segment_line : ℕ → List ℕ
-segment_line number = codes "M4 SegmentRange " ++ decimal number ++ codes "\n"
+-- why an executable could not be loaded; want of memory has no line
+abbrev pub name_line : List ℕ → List ℕ → List ℕ
+name_line what name = what ++ name ++ codes "\n"
+
+abbrev pub load_line : LoadFault → List ℕ
+load_line (loads.UnresolvedName name) = name_line (codes "M1 UnresolvedName ") name
+load_line (loads.AreasOverlap name) = name_line (codes "M2 AreasOverlap ") name
+load_line (loads.AreaRange name) = name_line (codes "M3 AreaRange ") name
+load_line (loads.SegmentRange number) = codes "M4 SegmentRange " ++ decimal number ++ codes "\n"
+load_line loads.OutOfMemory = []

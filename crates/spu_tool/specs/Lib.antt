@@ -1,6 +1,8 @@
 pub mod Statuses
 pub mod Numbers
 pub mod Lists
+pub mod Cutting
+pub mod Areas
 pub mod Options
 pub mod Arguments
 pub mod FaultLines

@@ -1,5 +1,5 @@
 -- What a command makes of the bytes of its files: a status, an output file where it has one, and a text.
-use Rattle.std.specs.Prelude.{◌≡◌, ℕ, ◌+◌, ◌-◌, ◌^◌, ◌<◌, ◌≤◌, ◌/◌, ◌%◌, ◌++◌, ◌∷◌, [], ◌⊎◌, nat_lt, if◌then◌else◌, List, length, slice_index_or, Option, Some, None, codes}
+use Rattle.std.specs.Prelude.{◌≡◌, ℕ, ◌+◌, ◌-◌, ◌^◌, ◌<◌, ◌≤◌, ◌/◌, ◌%◌, ◌++◌, ◌∷◌, [], ◌⊎◌, nat_lt, ◌==◌, if◌then◌else◌, List, length, drop, slice_index_or, Option, Some, None, codes}
 use Rattle.std.specs.List.{flat_map}
 use Rattle.std.specs.Fmt.{decimal}
 use Rattle.spu_elf.specs.declared.objects.Object.{Object}
@@ -10,22 +10,23 @@ use Rattle.spu_elf.specs.Reading.{object_fault, object_in}
 use Rattle.spu_elf.specs.declared.executables.Segment.{Segment}
 use Rattle.spu_lift.specs.FirstForm.{IsFirst}
 use Rattle.spu_elf.specs.Spelling.{spell}
-use Rattle.spu_tool.specs.FaultLines.{asm_line, elf_line, form_line, segment_line}
-use Rattle.spu_lift.specs.declared.program.Prog.{Prog}
+use Rattle.spu_tool.specs.FaultLines.{asm_line, elf_line, form_line, load_line}
 use Rattle.spu_image.specs.declared.outcome.Linked.{Linked}
-use Rattle.spu_image.specs.Layout.{code_end}
 use Rattle.spu_image.specs.Linking.{IsLinked}
 use Rattle.spu_elf.specs.declared.executables.Exec.{Exec}
 use Rattle.spu_elf.specs.Executables.{exec_fault}
 use Rattle.spu_elf.specs.Validity.{IsValidExec}
 use Rattle.spu_elf.specs.Spelling.{spell_exec}
 use Rattle.spu_word.specs.declared.load.LoadFault.{LoadFault}
-use Rattle.spu_word.specs.declared.load.LoadFault.TheVariants as loads
+use Rattle.spu_word.specs.declared.load.Area.{Area}
+use Rattle.spu_word.specs.declared.load.Inputs.{Inputs}
+use Rattle.hex.specs.Hex.{encode_lower}
+use Rattle.spu_tool.specs.Areas.{areas_of}
 use Rattle.spu_asm.specs.Assembly.{Assembles, IsFaultOf}
 use Rattle.spu_asm.specs.Faults.{Fault}
 use Rattle.spu_ls.specs.Machine.{State, steps}
 use Rattle.spu_ls.specs.Start.{start}
-use Rattle.spu_ls.specs.Loading.{first_outside}
+use Rattle.spu_ls.specs.Loading.{load_fault}
 use Rattle.spu_ls.specs.Ends.{end_of}
 use Rattle.spu_ls.specs.declared.ending.RunEnd.{RunEnd}
 use Rattle.spu_ls.specs.declared.ending.RunEnd.TheVariants as ending
@@ -54,30 +55,21 @@ count_line what count = what ++ codes " " ++ decimal count ++ codes "\n"
 abbrev pub share_line : List ℕ → ℕ → ℕ → List ℕ
 share_line what part whole = what ++ codes " " ++ decimal part ++ codes " of " ++ decimal whole ++ codes "\n"
 
--- the summary of a flat image: how many functions it has beside the start code, the stack that they need, and where its
--- code ends
+-- the summary of a flat image: how many functions it has beside the start code, the stack that they need, and where it ends
 abbrev pub summary_of : ℕ → ℕ → ℕ → ℕ → List ℕ
 summary_of functions need limit top =
     codes "image flat\n" ++ count_line (codes "functions") functions
     ++ share_line (codes "stack") need limit ++ share_line (codes "top") top (STACK_TOP - limit)
 
-abbrev pub summary : Prog → ℕ → ℕ → List ℕ
-summary p limit need = summary_of (length p.functions - 1) need limit (code_end p)
-
--- the root segment from 128 to the end of the code, and a start code
-pub record HasRoot (l : Linked) : Type 0 where
-  pub root : Segment
-  pub only : l.exec.segments ≡ root ∷ []
-  pub end : DATA_START + length root.bytes ≡ code_end l.prog
-  pub small : length root.bytes < 2 ^ 32
-  pub started : 1 ≤ length l.prog.functions
+abbrev pub summary : Linked → ℕ → ℕ → List ℕ
+summary l limit need = summary_of (length l.prog.functions - 1) need limit l.plan.end
 
 -- the object that the bytes stand for is linked; its functions need no stack
 pub record LinksTo (bytes : List ℕ) (m : Made) : Type 0 where
   pub read : object_fault bytes ≡ None
   pub linked : Linked
   pub link : IsLinked (object_in bytes ∷ []) DEFAULT_LIMIT linked
-  pub is : m ≡ made status.Ok (Some linked.file) (summary linked.prog DEFAULT_LIMIT 0)
+  pub is : m ≡ made status.Ok (Some linked.file) (summary linked DEFAULT_LIMIT 0)
 
 -- it isn't of the first form
 pub record LinksNot (name bytes : List ℕ) (m : Made) : Type 0 where
@@ -143,48 +135,50 @@ status_of ending.TransferFault = status.Ended
 status_of ending.OutboxFull = status.Ended
 status_of ending.Running = status.Running
 
--- a line for each word of the outbound mailbox, the end, and the count of steps
+-- a line for each word of the outbound mailbox, and one for each area; the transfers that wait, the end, and the count of steps
 abbrev pub out_line : ℕ → List ℕ
 out_line word = count_line (codes "out") word
 
+abbrev pub area_line : Area → List ℕ
+area_line a = codes "area " ++ a.name ++ codes " " ++ encode_lower a.bytes ++ codes "\n"
+
+-- the transfers that wait, where there are some
+abbrev pub waiting_line : ℕ → List ℕ
+waiting_line n = if n == 0 then [] else count_line (codes "waiting") n
+
 abbrev pub run_text : State → List ℕ
-run_text s = flat_map out_line s.output ++ end_line (end_of s.ended) ++ count_line (codes "steps") s.steps
+run_text s =
+    flat_map out_line s.output ++ flat_map area_line s.areas ++ waiting_line (length s.queue)
+    ++ end_line (end_of s.ended) ++ count_line (codes "steps") s.steps
 
--- the executable is run from its start, with this mail in its inbound mailbox
-pub record Runs (exec : Exec) (options : RunOptions) (m : Made) : Type 0 where
-  pub fits : first_outside exec.segments ≡ None
-  pub is : let s = steps options.steps (start exec options.mail) in m ≡ made (status_of (end_of s.ended)) None (run_text s)
+-- what a run is given, where its areas' files hold these bytes
+abbrev pub inputs_of : RunOptions → List (List ℕ) → Inputs
+inputs_of options files = record { image_ea = options.image; mail = options.mail; areas = areas_of options.places files }
 
--- a segment doesn't lie in the local store, the first of this number
-pub record LoadsNot (exec : Exec) (m : Made) : Type 0 where
-  pub number : ℕ
-  pub first : first_outside exec.segments ≡ Some number
-  pub is : m ≡ refused (segment_line number)
+-- the executable of this file is run from its start
+pub record Runs (exec : Exec) (bytes : List ℕ) (inputs : Inputs) (budget : ℕ) (m : Made) : Type 0 where
+  pub fits : load_fault exec bytes inputs ≡ None
+  pub is : let s = steps budget (start exec bytes inputs) in m ≡ made (status_of (end_of s.ended)) None (run_text s)
 
--- with no areas, a load is refused for a segment alone, or for want of memory
-abbrev pub IsOfSegment : LoadFault → Type 0
-IsOfSegment (loads.SegmentRange number) = Unit {0}
-IsOfSegment loads.OutOfMemory = Unit {0}
-IsOfSegment (loads.UnresolvedName name) = ⊥
-IsOfSegment (loads.AreasOverlap name) = ⊥
-IsOfSegment (loads.AreaRange name) = ⊥
+-- it can't be loaded
+pub record LoadsNot (exec : Exec) (bytes : List ℕ) (inputs : Inputs) (m : Made) : Type 0 where
+  pub fault : LoadFault
+  pub first : load_fault exec bytes inputs ≡ Some fault
+  pub is : m ≡ refused (load_line fault)
 
--- the line of a refused load
-pub record NamesSegment (fault : LoadFault) (m : Made) : Type 0 where
-  pub number : ℕ
-  pub segment : fault ≡ loads.SegmentRange number
-  pub is : m ≡ refused (segment_line number)
+abbrev pub RunsOrNot : Exec → List ℕ → Inputs → ℕ → Made → Type 0
+RunsOrNot exec bytes inputs budget m = Runs exec bytes inputs budget m ⊎ LoadsNot exec bytes inputs m
 
 -- the bytes spell an executable, which is run or can't be loaded
-pub record RunsTo (options : RunOptions) (bytes : List ℕ) (m : Made) : Type 0 where
+pub record RunsTo (options : RunOptions) (bytes : List ℕ) (files : List (List ℕ)) (m : Made) : Type 0 where
   pub read : exec_fault bytes ≡ None
   pub exec : Exec
   pub valid : IsValidExec exec
   pub spelled : spell_exec exec ≡ bytes
-  pub made : Runs exec options m ⊎ LoadsNot exec m
+  pub made : RunsOrNot exec bytes (inputs_of options files) options.steps m
 
-abbrev pub MakesRun : RunOptions → List ℕ → List ℕ → Made → Type 0
-MakesRun options name bytes m = RunsTo options bytes m ⊎ ReadsNot (exec_fault bytes) name m
+abbrev pub MakesRun : RunOptions → List ℕ → List ℕ → List (List ℕ) → Made → Type 0
+MakesRun options name bytes files m = RunsTo options bytes files m ⊎ ReadsNot (exec_fault bytes) name m
 
 -- ---- by the action: the names of its files, and their bytes
 
@@ -194,10 +188,10 @@ first xs = slice_index_or xs 0 []
 abbrev pub MakesBy : Action → List (List ℕ) → List (List ℕ) → Made → Type 0
 MakesBy action.Assemble names files = MakesAssemble (first files)
 MakesBy action.Link names files = MakesLink (first names) (first files)
-MakesBy (action.Run options) names files = MakesRun options (first names) (first files)
+MakesBy (action.Run options) names files = MakesRun options (first names) (first files) (drop 1 files)
 
 -- how many files an action has, and what its options keep
 abbrev pub IsComplete : Action → ℕ → Type 0
 IsComplete action.Assemble files = 1 ≤ files
 IsComplete action.Link files = 1 ≤ files
-IsComplete (action.Run options) files = (1 ≤ files) × AreSound options
+IsComplete (action.Run options) files = (files ≡ 1 + length options.places) × AreSound options

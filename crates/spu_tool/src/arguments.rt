@@ -6,8 +6,10 @@ ghost use Rattle.spu_tool.specs.Options.{IsTaken};
 ghost use Rattle.spu_tool.specs.Arguments.{asked, asked_of, asked_from, asked_assemble, asked_link, asked_run, texts_of, read_after, nothing_given, is_option, parts_in, IsFaultOf};
 ghost use Rattle.spu_tool.specs.declared.arguments.ParseFault.TheVariants as faults;
 
+use crate::areas::{AreaWord, area_word};
 use crate::command::Command;
-use crate::options::{OptionName, Options, RunOptions, cut_at};
+use crate::cutting::cut_at;
+use crate::options::{OptionName, Options, RunOptions};
 use crate::request::{Action, Request};
 use spu_word::OutOfMemory;
 use std::alloc::Global;
@@ -47,6 +49,7 @@ fn name_and_value(word: &str) -> (&str, &str)
 #[derive(Drop)]
 struct Arguments<'a> {
     operands: Vec<&'a str>,
+    files: Vec<&'a str>,
     options: Options,
 }
 
@@ -56,18 +59,39 @@ impl<'a> Model for Arguments<'a> {
 
     ghost Value = { Given };
 
-    ghost view = { λ a. record { operands = map (λ w. w.now) a.operands.items; options = a.options } };
+    ghost view = { λ a. record { operands = map (λ w. w.now) a.operands.items; files = map (λ w. w.now) a.files.items; options = a.options } };
 }
 
 impl<'a> Arguments<'a> {
-    ghost use Rattle.spu_tool.specs.Arguments.{with_option, with_parts, with_operand, with_word};
+    ghost use Rattle.spu_tool.specs.Areas.{parts_shown};
+    ghost use Rattle.spu_tool.specs.Arguments.{with_area, with_option, with_parts, with_operand, with_word};
 
     fn new(alloc: Global) -> Arguments<'a>
         ensures { result ≡ nothing_given }
     {
         Arguments {
             operands: Vec::new(alloc),
-            options: Options::new(),
+            files: Vec::new(alloc),
+            options: Options::new(alloc),
+        }
+    }
+
+    // Takes an area, and answers whether its name is new and there is room for it.
+    fn take_area(&mut self, alloc: Global, area: Option<AreaWord<'a>>) -> Result<bool, OutOfMemory>
+        ensures { IfOk result (IsTaken (with_area self.old (parts_shown area.entry)) self.new) }
+    {
+        match area {
+            Some(area) => {
+                if self.options.has_room(area.name.as_bytes()) {
+                    self.options
+                        .add_place(alloc, area.name.as_bytes(), area.ea)?;
+                    self.files.push(area.file)?;
+                    Ok(true)
+                } else {
+                    Ok(false)
+                }
+            }
+            None => Ok(false),
         }
     }
 
@@ -76,13 +100,15 @@ impl<'a> Arguments<'a> {
         &mut self,
         alloc: Global,
         name: OptionName,
-        value: &str,
+        value: &'a str,
     ) -> Result<bool, OutOfMemory>
         ensures { IfOk result (IsTaken (with_option self.old name value.now) self.new) }
     {
         match name {
             OptionName::Steps => Ok(self.options.take_steps(value.as_bytes())),
             OptionName::Mail => self.options.take_mail(alloc, value.as_bytes()),
+            OptionName::Area => self.take_area(alloc, area_word(value)),
+            OptionName::Image => Ok(self.options.take_image(value.as_bytes())),
         }
     }
 
@@ -174,17 +200,33 @@ fn link_request<'a>(alloc: Global, operands: &[&'a str]) -> Result<Option<Reques
     }
 }
 
-// The request of `run IN`.
+// A file, and then others.
+fn with_files<'a>(
+    alloc: Global,
+    file: &'a str,
+    files: &[&'a str],
+) -> Result<Vec<&'a str>, OutOfMemory>
+    ensures { IfOk result (λ all. texts_of all.items ≡ file.entry.now ∷ texts_of files.now) }
+{
+    let mut all = alone(alloc, file)?;
+    for other in files {
+        all.push(other)?;
+    }
+    Ok(all)
+}
+
+// The request of `run IN`, with the files of areas.
 fn run_request<'a>(
     alloc: Global,
     operands: &[&'a str],
+    files: &[&'a str],
     options: RunOptions,
 ) -> Result<Option<Request<'a>>, OutOfMemory>
-    ensures { IfOk result (λ r. option_map asked_of r ≡ asked_run (texts_of operands.now) options) }
+    ensures { IfOk result (λ r. option_map asked_of r ≡ asked_run (texts_of operands.now) (texts_of files.now) options) }
 {
     match operands.get(0) {
         Some(input) => Ok(Some(Request {
-            inputs: alone(alloc, input)?,
+            inputs: with_files(alloc, input, files)?,
             output: None,
             action: Action::Run(options),
         })),
@@ -204,11 +246,20 @@ impl<'a> Arguments<'a> {
     ) -> Result<Option<Request<'a>>, OutOfMemory>
         ensures { IfOk result (λ r. option_map asked_of r ≡ asked_by command self.entry) }
     {
-        let Arguments { operands, options } = self;
+        let Arguments {
+            operands,
+            files,
+            options,
+        } = self;
         match command {
             Command::Assemble => assemble_request(alloc, operands.as_slice()),
             Command::Link => link_request(alloc, operands.as_slice()),
-            Command::Run => run_request(alloc, operands.as_slice(), options.into_run(alloc)),
+            Command::Run => run_request(
+                alloc,
+                operands.as_slice(),
+                files.as_slice(),
+                options.into_run(alloc),
+            ),
         }
     }
 }
@@ -311,6 +362,18 @@ mod tests {
             ("run a --mail=1,4294967296", 3),
             ("run a --mail=1 --mail=1", 4),
             ("link a b --mail=1", 4),
+            ("link a b --area=n:0:f", 4),
+            ("run a --area=n:0", 3),
+            ("run a --area=:0:f", 3),
+            ("run a --area=n-:0:f", 3),
+            ("run a --area=n::f", 3),
+            ("run a --area=n:0:", 3),
+            ("run a --area=n:0X1:f", 3),
+            ("run a --area=n:18446744073709551616:f", 3),
+            ("run a --area=n:0:f --area=n:16:g", 4),
+            ("run a --image=64", 3),
+            ("run a --image=0xffffffffff800080", 3),
+            ("run a --image=0 --image=0", 4),
         ];
         for (line, fault) in cases {
             let words = words_of(rt.alloc(), line)?;

@@ -1,14 +1,15 @@
 //! What is made of input that has a fault: the fault's line.
 
-ghost use Rattle.std.specs.Prelude.{◌≡◌, string_bytes, IfOk};
-ghost use Rattle.spu_tool.specs.FaultLines.{asm_name, elf_name, asm_line, elf_line, form_line, segment_line};
+ghost use Rattle.std.specs.Prelude.{◌≡◌, ◌≢◌, string_bytes, IfOk};
+ghost use Rattle.spu_tool.specs.FaultLines.{asm_name, elf_name, asm_line, elf_line, form_line, name_line, load_line};
 ghost use Rattle.spu_tool.specs.Makes.{refused};
+ghost use Rattle.spu_word.specs.declared.load.LoadFault.TheVariants as loads;
 
 use crate::made::Made;
 use crate::status::Status;
 use spu_asm::AsmKind;
 use spu_elf::ElfKind;
-use spu_word::{OutOfMemory, Seq};
+use spu_word::{LoadFault, OutOfMemory, Seq};
 use std::alloc::Global;
 
 /// A refusal with this line.
@@ -97,10 +98,42 @@ pub fn form_refusal(alloc: Global, file: &str) -> Result<Made, OutOfMemory>
     refusal(alloc, text.as_str())
 }
 
+/// A fault that names an area.
+fn name_refusal(alloc: Global, what: &[u8], name: &[u8]) -> Result<Made, OutOfMemory>
+    ensures { IfOk result (λ m. m ≡ refused (name_line what.now name.now)) }
+{
+    let mut text = Seq::copied(alloc, what)?;
+    text.extend(name)?;
+    text.extend(b"\n")?;
+    Ok(Made {
+        status: Status::Refused,
+        file: None,
+        text,
+    })
+}
+
 /// A segment of this number that doesn't lie in the local store.
-pub fn segment_refusal(alloc: Global, number: u32) -> Result<Made, OutOfMemory>
-    ensures { IfOk result (λ m. m ≡ refused (segment_line number)) }
+fn segment_refusal(alloc: Global, number: u32) -> Result<Made, OutOfMemory>
+    ensures { IfOk result (λ m. m ≡ refused (load_line (loads.SegmentRange number))) }
 {
     let text = format!(in alloc; "M4 SegmentRange {number}\n")?;
     refusal(alloc, text.as_str())
+}
+
+/// An executable that could not be loaded.
+pub fn load_refusal(alloc: Global, fault: &LoadFault) -> Result<Made, OutOfMemory>
+    ensures line { IfOk result (λ m. m ≡ refused (load_line fault.now)) }
+    ensures told { IfOk result (λ m. fault.now ≢ loads.OutOfMemory) }
+{
+    match fault {
+        LoadFault::UnresolvedName(name) => {
+            name_refusal(alloc, b"M1 UnresolvedName ", name.as_slice())
+        }
+        LoadFault::AreasOverlap(name) => {
+            name_refusal(alloc, b"M2 AreasOverlap ", name.as_slice())
+        }
+        LoadFault::AreaRange(name) => name_refusal(alloc, b"M3 AreaRange ", name.as_slice()),
+        LoadFault::SegmentRange(number) => segment_refusal(alloc, *number),
+        LoadFault::OutOfMemory => Err(OutOfMemory),
+    }
 }

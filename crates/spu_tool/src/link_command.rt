@@ -1,7 +1,7 @@
 //! What `link` makes of an object's bytes.
 
-ghost use Rattle.std.specs.Prelude.{◌≡◌, ◌≤◌, ◌∷◌, [], codes, Some, IfOk};
-ghost use Rattle.spu_tool.specs.Makes.{HasRoot, MakesLink, made, summary, summary_of};
+ghost use Rattle.std.specs.Prelude.{◌≡◌, ◌≤◌, ◌∷◌, [], codes, length, Some, IfOk};
+ghost use Rattle.spu_tool.specs.Makes.{MakesLink, made, summary, summary_of};
 ghost use Rattle.spu_tool.specs.declared.status.Status.TheVariants as Status;
 
 use crate::fault_lines::{elf_refusal, form_refusal};
@@ -10,7 +10,7 @@ use crate::status::Status;
 use crate::texts::{count_line, share_line};
 use spu_elf::{ElfFault, Object, read_object};
 use spu_image::{LinkFault, LinkOptions, Linked, link};
-use spu_word::limits::{DATA_START, STACK_TOP};
+use spu_word::limits::STACK_TOP;
 use spu_word::{Bytes, OutOfMemory, Seq};
 use std::alloc::Global;
 
@@ -34,47 +34,36 @@ fn alone(alloc: Global, object: Object) -> Result<Seq<Object>, OutOfMemory>
     Ok(objects)
 }
 
-/// The summary of a flat image with this many functions beside the start code, whose code ends at `top`.
+/// The summary of a flat image with this many functions beside the start code, which ends at `top`.
 fn summary(
     alloc: Global,
     functions: usize,
-    need: usize,
+    need: u32,
     limit: u32,
-    top: usize,
+    top: u32,
 ) -> Result<Bytes, OutOfMemory>
     requires { limit ≤ STACK_TOP }
     ensures { IfOk result (λ t. t ≡ summary_of functions need limit top) }
 {
     let mut text = Seq::copied(alloc, b"image flat\n")?;
     text.extend(count_line(alloc, "functions", functions as u64)?.as_bytes())?;
-    text.extend(share_line(alloc, "stack", need as u64, u64::from(limit))?.as_bytes())?;
-    text.extend(share_line(alloc, "top", top as u64, u64::from(STACK_TOP - limit))?.as_bytes())?;
+    text.extend(share_line(alloc, "stack", u64::from(need), u64::from(limit))?.as_bytes())?;
+    text.extend(share_line(
+        alloc,
+        "top",
+        u64::from(top),
+        u64::from(STACK_TOP - limit),
+    )?.as_bytes())?;
     Ok(text)
-}
-
-/// The summary of what was linked.
-fn linked_summary(alloc: Global, linked: &Linked) -> Result<Bytes, OutOfMemory>
-    requires { HasRoot linked.now }
-    ensures { IfOk result (λ t. t ≡ summary linked.now.prog DEFAULT_LIMIT 0) }
-{
-    match linked.exec.segments.as_slice() {
-        [root, ..] => summary(
-            alloc,
-            linked.prog.functions.len() - 1,
-            0,
-            DEFAULT_LIMIT,
-            DATA_START as usize + root.bytes.len(),
-        ),
-        [] => unreachable!(),
-    }
 }
 
 /// What is made of an object that is linked.
 fn linked_made(alloc: Global, linked: Linked) -> Result<Made, OutOfMemory>
-    requires { HasRoot linked }
-    ensures { IfOk result (λ m. m ≡ made Status.Ok (Some linked.file) (summary linked.prog DEFAULT_LIMIT 0)) }
+    requires { 1 ≤ length linked.prog.functions }
+    ensures { IfOk result (λ m. m ≡ made Status.Ok (Some linked.file) (summary linked DEFAULT_LIMIT 0)) }
 {
-    let text = linked_summary(alloc, &linked)?;
+    let functions = linked.prog.functions.len() - 1;
+    let text = summary(alloc, functions, 0, DEFAULT_LIMIT, linked.plan.end)?;
     let Linked { file, .. } = linked;
     Ok(Made {
         status: Status::Ok,

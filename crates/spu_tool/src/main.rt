@@ -1,10 +1,12 @@
 //! The tool: texts are assembled, objects are linked, and executables are run.
 #![tactic(auto)]
 
+mod areas;
 mod arguments;
 mod assemble_command;
 mod command;
 mod concluding;
+mod cutting;
 mod fault_lines;
 mod link_command;
 mod lists;

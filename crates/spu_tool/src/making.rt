@@ -1,6 +1,6 @@
 //! What a command makes: one case each.
 
-ghost use Rattle.std.specs.Prelude.{◌≡◌, ◌<◌, length, IfOk};
+ghost use Rattle.std.specs.Prelude.{◌≡◌, ◌<◌, length, drop, IfOk};
 ghost use Rattle.spu_tool.specs.Arguments.{texts_of};
 ghost use Rattle.spu_tool.specs.Makes.{MakesBy, IsComplete, first};
 
@@ -28,6 +28,14 @@ fn first_file(files: &[Bytes]) -> &[u8]
     files[0].as_slice()
 }
 
+// The files behind the first.
+fn rest(files: &[Bytes]) -> &[Bytes]
+    requires { 0 < length files.now }
+    ensures { result.now ≡ drop 1 files.now }
+{
+    files.split_at(1).1
+}
+
 /// What an action makes of its files, of which these are the names and the bytes.
 pub fn make(
     alloc: Global,
@@ -43,7 +51,13 @@ pub fn make(
         Action::Assemble => assemble_command(alloc, first_file(files)),
         Action::Link => link_command(alloc, first_name(names), first_file(files)),
         Action::Run(options) => {
-            run_command(alloc, options, first_name(names), first_file(files))
+            run_command(
+                alloc,
+                options,
+                first_name(names),
+                first_file(files),
+                rest(files),
+            )
         }
     }
 }

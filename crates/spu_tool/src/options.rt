@@ -1,15 +1,24 @@
 //! The options of a command line, and their values.
 
-ghost use Rattle.std.specs.Prelude.{◌≡◌, ◌<◌, IfOk};
-ghost use Rattle.spu_tool.specs.Options.{cut_at, parts_of};
+ghost use Rattle.std.specs.Prelude.{◌≡◌, IfOk, OnOk};
+ghost use Rattle.spu_tool.specs.Areas.{has_room};
+ghost use Rattle.spu_tool.specs.Options.{image_of};
 
+use crate::areas::{AreaPlace, has_room};
 use crate::lists::mail_of;
-use crate::numbers::word_of;
+use crate::numbers::{number_within, word_of};
+use spu_elf::constants::SEGMENT_ALIGN;
 use spu_word::{OutOfMemory, Seq};
 use std::alloc::Global;
 
 /// How many steps a run makes at most, where the words don't say.
 pub const DEFAULT_STEPS: u32 = 1_000_000;
+
+/// Where the executable's file lies in effective memory, where the words don't say.
+pub const DEFAULT_IMAGE: u64 = 0x4000_0000;
+
+/// The greatest place of that file: there is room for two of the longest files.
+pub const MAX_IMAGE: u64 = 0xffff_ffff_ff80_0000;
 
 /// An option's name.
 #[derive(Clone, Copy, PartialEq, Eq, Debug)]
@@ -18,6 +27,10 @@ pub enum OptionName {
     Steps,
     /// `--mail=N,N`, with at most 65,536 numbers that are at most 4,294,967,295.
     Mail,
+    /// `--area=NAME:EA:FILE`, with a name of letters, digits and `_`, and EA below 2^64: at most 16, of different names.
+    Area,
+    /// `--image=EA`, with EA a multiple of 128 that is at most `MAX_IMAGE`.
+    Image,
 }
 
 impl OptionName {
@@ -31,18 +44,24 @@ impl OptionName {
             Some(OptionName::Steps)
         } else if name == b"--mail".as_slice() {
             Some(OptionName::Mail)
+        } else if name == b"--area".as_slice() {
+            Some(OptionName::Area)
+        } else if name == b"--image".as_slice() {
+            Some(OptionName::Image)
         } else {
             None
         }
     }
 }
 
-/// What stands before the first of these characters, and what stands behind it.
-pub fn cut_at(text: &str, at: char) -> Option<(&str, &str)>
-    requires { at < 128 }
-    ensures { parts_of result ≡ cut_at at text.now }
+// The place of the executable's file that a text writes.
+fn image_of(text: &[u8]) -> Option<u64>
+    ensures { result ≡ image_of text.now }
 {
-    text.split_once(at)
+    match number_within(text, MAX_IMAGE) {
+        Some(ea) if ea % SEGMENT_ALIGN as u64 == 0 => Some(ea),
+        Some(_) | None => None,
+    }
 }
 
 /// The options that were given: each is None where no word gives it.
@@ -50,6 +69,8 @@ pub fn cut_at(text: &str, at: char) -> Option<(&str, &str)>
 pub struct Options {
     pub steps: Option<u32>,
     pub mail: Option<Seq<u32>>,
+    pub places: Seq<AreaPlace>,
+    pub image: Option<u64>,
 }
 
 /// The options of a run.
@@ -59,18 +80,24 @@ pub struct RunOptions {
     pub steps: u32,
     /// The words of its inbound mailbox.
     pub mail: Seq<u32>,
+    /// The places of its areas.
+    pub places: Seq<AreaPlace>,
+    /// Where the executable's file lies.
+    pub image: u64,
 }
 
 impl Options {
-    ghost use Rattle.spu_tool.specs.Options.{no_options, with_steps, with_mail, IsTaken, run_options};
+    ghost use Rattle.spu_tool.specs.Options.{no_options, with_steps, with_mail, with_place, with_image, IsTaken, run_options};
 
     /// No option was given.
-    pub fn new() -> Options
+    pub fn new(alloc: Global) -> Options
         ensures { result ≡ no_options }
     {
         Options {
             steps: None,
             mail: None,
+            places: Seq::new(alloc),
+            image: None,
         }
     }
 
@@ -96,6 +123,32 @@ impl Options {
         Ok(self.mail.is_some())
     }
 
+    /// Takes the value of `--image`, and answers whether it is new and a value.
+    pub fn take_image(&mut self, value: &[u8]) -> bool
+        ensures { IsTaken (with_image self.old value.now) self.new result }
+    {
+        if self.image.is_some() {
+            return false;
+        }
+        self.image = image_of(value);
+        self.image.is_some()
+    }
+
+    /// Whether there is room for one more area, and none before has its name.
+    pub fn has_room(&self, name: &[u8]) -> bool
+        ensures { result ≡ has_room self.now.places name.now }
+    {
+        has_room(self.places.as_slice(), name)
+    }
+
+    /// Takes an area.
+    pub fn add_place(&mut self, alloc: Global, name: &[u8], ea: u64) -> Result<(), OutOfMemory>
+        ensures { OnOk result (self.new ≡ with_place self.old name.now ea) }
+    {
+        let name = Seq::copied(alloc, name)?;
+        self.places.push(AreaPlace { name, ea })
+    }
+
     /// The options of a run.
     pub fn into_run(self, alloc: Global) -> RunOptions
         ensures { result ≡ run_options self }
@@ -103,6 +156,8 @@ impl Options {
         RunOptions {
             steps: self.steps.unwrap_or(DEFAULT_STEPS),
             mail: self.mail.unwrap_or(Seq::new(alloc)),
+            places: self.places,
+            image: self.image.unwrap_or(DEFAULT_IMAGE),
         }
     }
 }

@@ -6,22 +6,20 @@ ghost use Rattle.spu_ls.specs.Ends.{end_of};
 ghost use Rattle.spu_ls.specs.View.{state_of};
 ghost use Rattle.spu_elf.specs.Validity.{IsValidExec};
 ghost use Rattle.spu_elf.specs.Spelling.{spell_exec};
-ghost use Rattle.spu_word.specs.declared.limits.TheConstants.{MAX_MAIL};
+ghost use Rattle.spu_ls.specs.Loading.{IsAdmitted};
 ghost use Rattle.spu_tool.specs.Options.{AreSound};
-ghost use Rattle.spu_tool.specs.Makes.{MakesRun, Runs, LoadsNot, IsOfSegment, NamesSegment, count_line, made, hex_digit, hexadecimal, end_line, out_line, status_of, run_text};
+ghost use Rattle.spu_tool.specs.Makes.{MakesRun, RunsOrNot, inputs_of, area_line, waiting_line, count_line, made, hex_digit, hexadecimal, end_line, out_line, status_of, run_text};
 
-use crate::fault_lines::{elf_refusal, segment_refusal};
+use crate::areas::areas_of;
+use crate::fault_lines::{elf_refusal, load_refusal};
 use crate::made::Made;
 use crate::options::RunOptions;
 use crate::status::Status;
 use crate::texts::count_line;
 use spu_elf::{ElfFault, Exec, read_exec};
 use spu_ls::{Machine, RunEnd};
-use spu_word::{Bytes, Inputs, LoadFault, OutOfMemory, Seq};
+use spu_word::{Area, Bytes, Inputs, OutOfMemory, Seq};
 use std::alloc::Global;
-
-/// The effective address of the executable's file, if the words don't say it.
-const DEFAULT_IMAGE: u64 = 0x4000_0000;
 
 fn hex_digit(n: u32) -> u8
     requires { n < 16 }
@@ -101,12 +99,49 @@ fn out_lines(alloc: Global, words: &[u32]) -> Result<Bytes, OutOfMemory>
     Ok(text)
 }
 
+/// The line of an area: its bytes in hexadecimal.
+fn area_line(alloc: Global, a: &Area) -> Result<Bytes, OutOfMemory>
+    ensures { IfOk result (λ t. t ≡ area_line a.now) }
+{
+    let digits = hex::encode(alloc, a.bytes.as_slice())?;
+    let mut line = Seq::copied(alloc, b"area ")?;
+    line.extend(a.name.as_slice())?;
+    line.extend(b" ")?;
+    line.extend(digits.as_bytes())?;
+    line.extend(b"\n")?;
+    Ok(line)
+}
+
+/// A line for each area.
+fn area_lines(alloc: Global, areas: &[Area]) -> Result<Bytes, OutOfMemory>
+    ensures { IfOk result (λ t. t ≡ flat_map area_line areas.now) }
+{
+    let mut text = Seq::new(alloc);
+    for area in areas {
+        text.extend(area_line(alloc, area)?.as_slice())?;
+    }
+    Ok(text)
+}
+
+/// The line of transfers that wait, where there are some.
+fn waiting_line(alloc: Global, waiting: u32) -> Result<Bytes, OutOfMemory>
+    ensures { IfOk result (λ t. t ≡ waiting_line waiting) }
+{
+    if waiting == 0 {
+        Ok(Seq::new(alloc))
+    } else {
+        number_line(alloc, "waiting", waiting)
+    }
+}
+
 /// What is made of a run that ended so, or that has made its steps.
 fn ran(alloc: Global, machine: &Machine, end: RunEnd) -> Result<Made, OutOfMemory>
     requires { end ≡ end_of (state_of machine.now).ended }
     ensures { IfOk result (λ m. m ≡ made (status_of end) None (run_text (state_of machine.now))) }
 {
     let mut text = out_lines(alloc, machine.output())?;
+    text.extend(area_lines(alloc, machine.areas())?.as_slice())?;
+    text.extend(waiting_line(alloc, machine.waiting())?.as_slice())?;
     text.extend(end_line(alloc, end)?.as_slice())?;
     text.extend(count_line(alloc, "steps", machine.steps())?.as_bytes())?;
     Ok(Made {
@@ -116,46 +151,20 @@ fn ran(alloc: Global, machine: &Machine, end: RunEnd) -> Result<Made, OutOfMemor
     })
 }
 
-/// The inputs of a run with this mail, and no areas.
-fn inputs(alloc: Global, mail: Seq<u32>) -> Inputs
-    ensures { result ≡ record { image_ea = DEFAULT_IMAGE; mail = mail; areas = [] } }
-{
-    Inputs {
-        image_ea: DEFAULT_IMAGE,
-        mail,
-        areas: Seq::new(alloc),
-    }
-}
-
-/// What is made of an executable that could not be loaded with no areas.
-fn load_refusal(alloc: Global, fault: &LoadFault) -> Result<Made, OutOfMemory>
-    requires { IsOfSegment fault.now }
-    ensures { IfOk result (λ m. NamesSegment fault.now m) }
-{
-    match fault {
-        LoadFault::SegmentRange(number) => segment_refusal(alloc, *number),
-        LoadFault::OutOfMemory => Err(OutOfMemory),
-        LoadFault::UnresolvedName(_) => unreachable!(),
-        LoadFault::AreasOverlap(_) => unreachable!(),
-        LoadFault::AreaRange(_) => unreachable!(),
-    }
-}
-
-/// What is made of an executable of this file: a run of at most so many steps, with this mail.
+/// What is made of an executable of this file: a run of at most so many steps, with these inputs.
 fn exec_run(
     alloc: Global,
     exec: &Exec,
     file: &[u8],
+    inputs: &Inputs,
     steps: u32,
-    mail: Seq<u32>,
 ) -> Result<Made, OutOfMemory>
     requires valid { IsValidExec exec.now }
     requires file { file.now ≡ spell_exec exec.now }
-    requires mail { length mail ≤ MAX_MAIL }
-    ensures { IfOk result (λ m. Runs exec.now (record { steps = steps; mail = mail }) m ⊎ LoadsNot exec.now m) }
+    requires admitted { IsAdmitted inputs.now }
+    ensures { IfOk result (RunsOrNot exec.now file.now inputs.now steps) }
 {
-    let inputs = inputs(alloc, mail);
-    match Machine::load(alloc, exec, file, &inputs) {
+    match Machine::load(alloc, exec, file, inputs) {
         Ok(mut machine) => {
             let end = machine.run(u64::from(steps));
             ran(alloc, &machine, end)
@@ -164,19 +173,36 @@ fn exec_run(
     }
 }
 
-/// What is made of an executable's bytes: what its run with these options shows.
+/// What a run with these options is given, where its areas' files hold these bytes.
+fn inputs_of(alloc: Global, options: RunOptions, files: &[Bytes]) -> Result<Inputs, OutOfMemory>
+    requires { length files.now ≡ length options.places }
+    ensures { IfOk result (λ i. i ≡ inputs_of options files.now) }
+{
+    let areas = areas_of(alloc, options.places.as_slice(), files)?;
+    Ok(Inputs {
+        image_ea: options.image,
+        mail: options.mail,
+        areas,
+    })
+}
+
+/// What is made of an executable's bytes: what its run with these options shows. The areas' files hold these bytes.
+#[tactic(auto, using(crate::proofs::Loads::admitted))]
 pub fn run_command(
     alloc: Global,
     options: RunOptions,
     name: &str,
     bytes: &[u8],
+    files: &[Bytes],
 ) -> Result<Made, OutOfMemory>
-    requires { AreSound options }
-    ensures { IfOk result (MakesRun options name.now bytes.now) }
+    requires sound { AreSound options }
+    requires files { length files.now ≡ length options.places }
+    ensures { IfOk result (MakesRun options name.now bytes.now files.now) }
 {
-    let RunOptions { steps, mail } = options;
+    let steps = options.steps;
+    let inputs = inputs_of(alloc, options, files)?;
     match read_exec(alloc, bytes) {
-        Ok(exec) => exec_run(alloc, &exec, bytes, steps, mail),
+        Ok(exec) => exec_run(alloc, &exec, bytes, &inputs, steps),
         Err(ElfFault::Fault { kind, place }) => elf_refusal(alloc, kind, name, place),
         Err(ElfFault::OutOfMemory) => Err(OutOfMemory),
     }

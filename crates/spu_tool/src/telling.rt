@@ -7,7 +7,8 @@ use spu_io::LastFault;
 use std::alloc::Global;
 use std::io;
 
-const USAGE: &str = "asm IN OUT | link OUT IN | run IN [--steps=N] [--mail=N,N]";
+const USAGE: &str =
+    "asm IN OUT | link OUT IN | run IN [--steps=N] [--mail=N,N] [--area=NAME:EA:FILE] [--image=EA]";
 
 /// The words of a command, or of all.
 fn usage(words: &[String]) -> &'static str {
@@ -17,7 +18,7 @@ fn usage(words: &[String]) -> &'static str {
     {
         Some(Command::Assemble) => "asm IN OUT",
         Some(Command::Link) => "link OUT IN",
-        Some(Command::Run) => "run IN [--steps=N] [--mail=N,N]",
+        Some(Command::Run) => "run IN [--steps=N] [--mail=N,N] [--area=NAME:EA:FILE] [--image=EA]",
         None => USAGE,
     }
 }

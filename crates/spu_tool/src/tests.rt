@@ -84,11 +84,21 @@ fn assembles_links_and_runs(rt: HostRuntime) -> Result<(), Fail> {
     outside.files.hold("one.s", FIVE)?;
     outside.files.hold("two.s", PRODUCT)?;
     outside.files.hold("three.s", b".text\nfoo $1\n")?;
+    outside.files.hold("four", &[0, 10, 255, 127])?;
     let calls = [
         ("asm one.s one.o", Status::Ok),
         ("link one.elf one.o", Status::Ok),
         ("run one.elf", Status::Ok),
         ("run --steps=2 one.elf", Status::Running),
+        (
+            "run one.elf --area=a:0x1000:four --area=b:16:four",
+            Status::Ok,
+        ),
+        (
+            "run one.elf --area=a:4096:four --area=b:4088:four",
+            Status::Refused,
+        ),
+        ("run one.elf --area=a:4096:five", Status::ReadFault),
         ("asm two.s two.o", Status::Ok),
         ("link two.elf two.o", Status::Refused),
         ("asm three.s three.o", Status::Refused),
@@ -103,6 +113,8 @@ fn assembles_links_and_runs(rt: HostRuntime) -> Result<(), Fail> {
     let text = b"image flat\nfunctions 1\nstack 0 of 16384\ntop 176 of 245728
 out 5\nstop 0x2000\nsteps 6
 running\nsteps 2
+out 5\narea a 000aff7f\narea b 000aff7f\nstop 0x2000\nsteps 6
+M3 AreaRange b
 L0 NotBuilt two.o
 A4 UnknownMnemonic 2
 E2 NotElf one.s 0

@@ -1,12 +1,13 @@
 use Rattle.std.proofs.Common.{◌≡◌, ◌++◌, ◌≤◌, ◌-◌, length, drop, List, ℕ}
 use Rattle.std.specs.Prelude.{map}
 use Rattle.std.specs.Borrow.{Bor}
+use Rattle.spu_asm.specs.Parts.{lexemes}
 use Rattle.spu_asm.specs.StatementReading.{labels_of}
 use Rattle.spu_asm.proofs.statement_reading.labels_of.Given as goal
 
 abbrev pub invariant-loop-name : goal.invariant-loop-name
 invariant-loop-name l = record {
-  names : map (λ (w : Bor (List ℕ)). w.now) l.labels.items ++ labels_of (drop l.at l.pieces) ≡ labels_of l.pieces;
+  names : map (λ (w : Bor (List ℕ)). w.now) l.labels.items ++ labels_of (drop l.at (lexemes l.pieces)) ≡ labels_of (lexemes l.pieces);
   within : l.at ≤ length l.pieces;
 }
 

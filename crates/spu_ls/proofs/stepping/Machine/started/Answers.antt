@@ -1,17 +1,14 @@
-use Rattle.std.proofs.Common.{ap, sym, ◌∙◌}
-use Rattle.std.specs.Option.{option_copied}
-use Rattle.spu_ls.specs.View.{state_of, places}
-use Rattle.spu_ls.proofs.Starting.{first_fits, started_with, started_without}
-use Rattle.spu_ls.proofs.stepping.Machine.started.Goals.{in-Some, in_default}
+use Rattle.std.proofs.Common.{List, ap, ◌∙◌}
+use Rattle.spu_elf.specs.declared.objects.Symbol.{Symbol}
+use Rattle.spu_ls.specs.Entries.{image_place}
+use Rattle.spu_ls.specs.View.{state_of, enters_all}
+use Rattle.spu_ls.proofs.Starting.{started_is}
 use Rattle.spu_ls.proofs.stepping.Machine.started.Goals as goal
 
-pub place-requires : goal.place-requires
-place-requires c = first_fits c.args.x.now.segments c.in-Some.root.now _ c.requires (sym c.get.ensures ∙ ap option_copied c.in-Some.is) c.as_slice.ensures
-
 pub returns : goal.returns
-returns c = elim c.match-get.branch [
-  | in-Some w ↦
-      ap state_of w.machine-is
-      ∙ started_with c.args.x.now c.args.mail.now w.in-Some.root.now (state_of c.in_ok-machine.machine) _ c.in_ok-machine.ensures (sym c.get.ensures ∙ ap option_copied w.in-Some.is) (w.place.ensures ∙ ap (λ b. places w.in-Some.root.now.address b (state_of c.in_ok-machine.machine)) w.as_slice.ensures)
-  | in_default w ↦ ap state_of w.machine-is ∙ started_without c.args.x.now c.args.mail.now (state_of c.in_ok-machine.machine) c.in_ok-machine.ensures (sym c.get.ensures ∙ ap option_copied w.in_default.is)
-]
+returns c =
+    started_is c.args.x.now c.args.file.now c.args.inputs.now c.image_place.result (state_of c.in_ok-machine.machine) (state_of c.enter_all.new.self) (state_of c.enter_image.new.self)
+    c.in_ok-machine.ensures
+    (c.enter_all.ensures ∙ ap (λ (xs : List Symbol). enters_all xs (state_of c.in_ok-machine.machine)) c.as_slice.ensures)
+    (c.image_place.ensures ∙ ap image_place c.as_slice-2.ensures)
+    c.enter_image.ensures

@@ -1,0 +1,320 @@
+-- The operands of instructions, by SPU ISA 1.2: the registers of an operation's layout in the order rt, ra, rb, rc, those
+-- that its row gives as zero left out, then its immediate operand; some operations have operands of their own.
+use Rattle.std.specs.Prelude.{ℕ, ◌+◌, ◌-◌, ◌*◌, ◌/◌, ◌%◌, ◌^◌, ◌==◌, ◌&&◌, ◌||◌, Bool, true, false, nat_le, nat_lt, if◌then◌else◌, List, [], ◌∷◌, ◌++◌, length, take, drop, fold, Option, Some, None, option_map, Result, Ok, Err, codes, ℤ, pos, neg_ℤ, ◌-ℤ◌}
+use Rattle.std.specs.Borrow.{Bor}
+use Rattle.spu_text.specs.Lexemes.{Lexeme, word, mark}
+use Rattle.spu_isa.specs.declared.operation.Op.{Op}
+use Rattle.spu_isa.specs.declared.operation.Op.TheVariants as op
+use Rattle.spu_isa.specs.declared.operation.Kind.{Kind}
+use Rattle.spu_isa.specs.declared.operation.Kind.TheVariants.{HaltTest}
+use Rattle.spu_isa.specs.declared.instruction.Inst.{Inst}
+use Rattle.spu_isa.specs.declared.operation.Layout.{Layout}
+use Rattle.spu_isa.specs.declared.operation.Layout.TheVariants.{Rr, Rrr, Ri7, Ri10, Ri16}
+use Rattle.spu_isa.specs.declared.operation.Register.{Register}
+use Rattle.spu_isa.specs.declared.operation.Register.TheVariants.{Rt, Ra, Rb}
+use Rattle.spu_isa.specs.Table.{Row, row_of}
+use Rattle.spu_reloc.specs.declared.field.RelocKind.{RelocKind}
+use Rattle.spu_reloc.specs.declared.field.RelocKind.TheVariants.{Addr16Hi, Addr16Lo}
+use Rattle.spu_reloc.specs.Fields.{kind_on}
+use Rattle.spu_asm.specs.declared.faults.AsmKind.{AsmKind}
+use Rattle.spu_asm.specs.declared.faults.AsmKind.TheVariants as asm
+use Rattle.spu_asm.specs.declared.slots.Field.{Field}
+use Rattle.spu_asm.specs.declared.slots.Field.TheVariants as field
+use Rattle.spu_asm.specs.declared.slots.Bounds.{Bounds}
+use Rattle.spu_asm.specs.declared.slots.Range.{Range}
+use Rattle.spu_asm.specs.declared.slots.Range.TheVariants as range
+use Rattle.spu_asm.specs.declared.slots.Slot.{Slot}
+use Rattle.spu_asm.specs.declared.slots.Slot.TheVariants as slot
+use Rattle.spu_asm.specs.declared.values.Offset.{Offset}
+use Rattle.spu_asm.specs.declared.operands.Given.{Given as CodeGiven}
+use Rattle.spu_asm.specs.declared.operands.Given.TheVariants as code
+use Rattle.spu_asm.specs.declared.operands.Target.{Target as CodeTarget}
+use Rattle.spu_asm.specs.declared.operands.Coded.{Coded as CodeCoded}
+use Rattle.spu_asm.specs.Names.{Name, register_of, channel_of, without_suffix}
+use Rattle.spu_asm.specs.Values.{Value, plain, here, symbol, value_of, natural}
+
+-- ---- which operands
+
+-- numbers from -low to high, multiples of unit; the field holds the quotient, which stands for a negative number from half on
+abbrev pub bounds : ℕ → ℕ → ℕ → ℕ → Bounds
+bounds l h u f = record { low = l; high = h; unit = u; half = f }
+
+abbrev pub bounds_of : Range → Bounds
+bounds_of range.StopCode = bounds 0 16383 1 131072
+bounds_of range.TenBits = bounds 512 511 1 512
+bounds_of range.SevenBits = bounds 64 127 1 64
+bounds_of range.Insertion = bounds 64 63 1 64
+bounds_of range.Displacement = bounds 8192 8176 16 512
+bounds_of range.SignedHalf = bounds 32768 32767 1 32768
+bounds_of range.Half = bounds 32768 65535 1 32768
+bounds_of range.Address = bounds 0 262143 1 262144
+bounds_of range.WordAddress = bounds 0 262140 4 32768
+bounds_of range.WordDistance = bounds 131072 131068 4 32768
+
+abbrev pub rt : Slot
+rt = slot.Register field.Rt
+
+abbrev pub ra : Slot
+ra = slot.Register field.Ra
+
+abbrev pub is_rt : Register → Bool
+is_rt Rt = true
+is_rt _ = false
+
+abbrev pub is_ra : Register → Bool
+is_ra Ra = true
+is_ra _ = false
+
+abbrev pub is_rb : Register → Bool
+is_rb Rb = true
+is_rb _ = false
+
+abbrev pub has : (Register → Bool) → List Register → Bool
+has is [] = false
+has is (r ∷ rs) = is r || has is rs
+
+-- a register, unless the row gives it as zero
+abbrev pub unless_zero : Row → (Register → Bool) → Slot → List Slot
+unless_zero r is s = if has is r.zero_fields then [] else s ∷ []
+
+abbrev pub by_layout : Layout → Row → List Slot
+by_layout Rr r = unless_zero r is_rt rt ++ unless_zero r is_ra ra ++ unless_zero r is_rb (slot.Register field.Rb)
+by_layout Rrr r = rt ∷ ra ∷ slot.Register field.Rb ∷ slot.Register field.Rc ∷ []
+by_layout Ri7 r = rt ∷ ra ∷ slot.Number range.SevenBits ∷ []
+by_layout Ri10 r = rt ∷ ra ∷ slot.Number range.TenBits ∷ []
+by_layout Ri16 r = unless_zero r is_rt rt ++ slot.Relative ∷ []
+by_layout _ r = []
+
+abbrev pub insertion : List Slot
+insertion = rt ∷ slot.Memory range.Insertion ∷ []
+
+abbrev pub displacement : List Slot
+displacement = rt ∷ slot.Memory range.Displacement ∷ []
+
+-- the operands of an operation, all of them
+abbrev pub slots_of : Op → List Slot
+slots_of op.Stop = slot.Number range.StopCode ∷ []
+slots_of op.Nop = slot.RegisterNumber ∷ []
+slots_of op.Rdch = rt ∷ slot.Channel ∷ []
+slots_of op.Rchcnt = rt ∷ slot.Channel ∷ []
+slots_of op.Wrch = slot.Channel ∷ rt ∷ []
+slots_of op.Hbr = slot.Place ∷ ra ∷ []
+slots_of op.Hbra = slot.Place ∷ slot.Address range.SignedHalf ∷ []
+slots_of op.Hbrr = slot.Place ∷ slot.Address range.SignedHalf ∷ []
+slots_of op.Lqd = displacement
+slots_of op.Stqd = displacement
+slots_of op.Cbd = insertion
+slots_of op.Chd = insertion
+slots_of op.Cwd = insertion
+slots_of op.Cdd = insertion
+slots_of op.Bra = slot.Address range.WordAddress ∷ []
+slots_of op.Brasl = rt ∷ slot.Address range.WordAddress ∷ []
+slots_of op.Lqa = rt ∷ slot.Address range.WordAddress ∷ []
+slots_of op.Stqa = rt ∷ slot.Address range.WordAddress ∷ []
+slots_of op.Il = rt ∷ slot.Number range.SignedHalf ∷ []
+slots_of op.Ilh = rt ∷ slot.Number range.Half ∷ []
+slots_of op.Fsmbi = rt ∷ slot.Number range.Half ∷ []
+slots_of op.Ilhu = rt ∷ slot.Address range.Half ∷ []
+slots_of op.Iohl = rt ∷ slot.Address range.Half ∷ []
+slots_of op.Ila = rt ∷ slot.Address range.Address ∷ []
+slots_of o = by_layout (row_of o).layout (row_of o)
+
+abbrev pub is_halt : Kind → Bool
+is_halt HaltTest = true
+is_halt _ = false
+
+-- the first may be left out
+abbrev pub is_optional : Op → Bool
+is_optional op.Stop = true
+is_optional op.Nop = true
+is_optional o = is_halt (row_of o).kind
+
+-- the operands where there are n
+abbrev pub left : Bool → List Slot → ℕ → List Slot
+left optional ss n = if optional && length ss == n + 1 then drop 1 ss else ss
+
+-- ---- numbers
+
+-- a quotient as a field: from half on it stands for a negative number
+abbrev pub scaled : Bool → ℕ → ℕ → ℤ
+scaled negative q half = if negative then neg_ℤ (pos q) else (if nat_lt q half then pos q else pos q -ℤ pos (2 * half))
+
+abbrev pub quotient : Bounds → Offset → ℕ → Option ℤ
+quotient b n most = if nat_le n.size most && n.size % b.unit == 0 then Some (scaled n.negative (n.size / b.unit) b.half) else None
+
+-- the field of a number; nothing outside the bounds
+abbrev pub signed_number : Range → Offset → Option ℤ
+signed_number b n = quotient (bounds_of b) n (if n.negative then (bounds_of b).low else (bounds_of b).high)
+
+-- an addend from -2^31 to 2^31 - 1
+abbrev pub addend_of : Offset → Option ℤ
+addend_of n =
+    if n.negative then (if nat_le n.size (2 ^ 31) then Some (neg_ℤ (pos n.size)) else None)
+    else (if nat_lt n.size (2 ^ 31) then Some (pos n.size) else None)
+
+-- a hint's place from -256 to 255 words, in nine bits
+abbrev pub place_field : Offset → Option ℕ
+place_field n =
+    if n.negative then (if nat_le n.size 256 then Some ((512 - n.size) % 512) else None)
+    else (if nat_le n.size 255 then Some n.size else None)
+
+-- ---- what an operand gives
+
+-- a symbol and what is added to it
+pub record Target : Type 0 where
+  pub name : Name
+  pub addend : ℤ
+
+pub data Given : Type 0 where
+  bad : Given  -- A5
+  far : Given  -- A6
+  register : Field → ℕ → Given
+  immediate : ℤ → Given
+  -- a hint's place: its high two bits and its low seven
+  nine_bits : ℕ → ℕ → Given
+  place_symbol : Name → Given
+  target : Target → Given
+
+abbrev pub or_bad : {A : Type 0} → (A → Given) → Option A → Given
+or_bad f (Some x) = f x
+or_bad f None = bad
+
+abbrev pub or_far : {A : Type 0} → (A → Given) → Option A → Given
+or_far f (Some x) = f x
+or_far f None = far
+
+-- what stands behind a symbol that makes a relocation of this kind
+abbrev pub suffix_of : RelocKind → List ℕ
+suffix_of Addr16Hi = codes "@h"
+suffix_of Addr16Lo = codes "@l"
+suffix_of _ = []
+
+abbrev pub refers : Op → Name → Offset → Given
+refers o w n = or_bad (λ (s : Name). or_far (λ (a : ℤ). target (record { name = s; addend = a })) (addend_of n)) (without_suffix (suffix_of (kind_on o)) w)
+
+abbrev pub number_given : Range → Option Value → Given
+number_given b (Some (plain n)) = or_far immediate (signed_number b n)
+number_given b _ = bad
+
+-- `.` and a distance, or a symbol
+abbrev pub relative_given : Op → Option Value → Given
+relative_given o (Some (here n)) = or_far immediate (signed_number range.WordDistance n)
+relative_given o (Some (symbol w n)) = refers o w n
+relative_given o _ = bad
+
+-- a number, or a symbol
+abbrev pub address_given : Op → Range → Option Value → Given
+address_given o b (Some (plain n)) = or_far immediate (signed_number b n)
+address_given o b (Some (symbol w n)) = refers o w n
+address_given o b _ = bad
+
+-- a number from 0 to 127
+abbrev pub below_128 : Field → ℕ → Given
+below_128 f n = if nat_lt n 128 then register f n else far
+
+abbrev pub small_given : Field → Option Value → Given
+small_given f (Some (plain n)) = or_far (below_128 f) (natural n)
+small_given f _ = bad
+
+-- a number of words, or a symbol, whose addend has no effect
+abbrev pub place_given : Option Value → Given
+place_given (Some (plain n)) = or_far (λ (k : ℕ). nine_bits (k / 128) (k % 128)) (place_field n)
+place_given (Some (symbol w n)) = or_far (λ (a : ℤ). place_symbol w) (addend_of n)
+place_given _ = bad
+
+abbrev pub register_given : Field → List Lexeme → Given
+register_given f (word w ∷ []) = or_bad (register f) (register_of w)
+register_given f _ = bad
+
+abbrev pub register_number_given : List Lexeme → Given
+register_number_given (word w ∷ []) = or_bad (register field.Rt) (register_of w)
+register_number_given ts = small_given field.Rt (value_of ts)
+
+abbrev pub channel_given : List Lexeme → Given
+channel_given (word w ∷ []) = or_bad (register field.Ra) (channel_of w)
+channel_given ts = small_given field.Ra (value_of ts)
+
+-- `(register)`
+abbrev pub base_given : List Lexeme → Given
+base_given (mark m ∷ word w ∷ mark n ∷ []) = if m == 40 && n == 41 then or_bad (register field.Ra) (register_of w) else bad
+base_given _ = bad
+
+abbrev pub given : Op → Slot → List Lexeme → List Given
+given o (slot.Register f) ts = register_given f ts ∷ []
+given o slot.RegisterNumber ts = register_number_given ts ∷ []
+given o slot.Channel ts = channel_given ts ∷ []
+given o (slot.Number b) ts = number_given b (value_of ts) ∷ []
+given o slot.Relative ts = relative_given o (value_of ts) ∷ []
+given o (slot.Address b) ts = address_given o b (value_of ts) ∷ []
+-- the last three lexemes are the register
+given o (slot.Memory b) ts = number_given b (value_of (take (length ts - 3) ts)) ∷ base_given (drop (length ts - 3) ts) ∷ []
+given o slot.Place ts = place_given (value_of ts) ∷ []
+
+abbrev pub all_given : Op → List Slot → List (List Lexeme) → List Given
+all_given o [] [] = []
+all_given o [] (t ∷ ts) = bad ∷ []
+all_given o (s ∷ ss) [] = bad ∷ []
+all_given o (s ∷ ss) (t ∷ ts) = given o s t ++ all_given o ss ts
+
+-- ---- the instruction
+
+-- an instruction, the symbol of a hint's place, and the symbol that it refers to
+pub record Coded : Type 0 where
+  pub inst : Inst
+  pub place : Option Name
+  pub target : Option Target
+
+abbrev pub with_field : Field → ℕ → Inst → Inst
+with_field field.Rt n x = record x { rt = n }
+with_field field.Ra n x = record x { ra = n }
+with_field field.Rb n x = record x { rb = n }
+with_field field.Rc n x = record x { rc = n }
+
+abbrev pub Reading : Type 0
+Reading = Result Coded AsmKind
+
+-- a number outside its range is noted, and reading goes on
+abbrev pub outside : Reading → Reading
+outside (Ok c) = Err asm.Range
+outside (Err k) = Err k
+
+abbrev pub changed : (Coded → Coded) → Reading → Reading
+changed f (Ok c) = Ok (f c)
+changed f (Err k) = Err k
+
+abbrev pub read : Reading → Given → Reading
+read r bad = Err asm.BadOperand
+read r far = outside r
+read r (register f n) = changed (λ c. record c { inst = with_field f n c.inst }) r
+read r (immediate n) = changed (λ c. record c { inst = record c.inst { imm = n } }) r
+read r (nine_bits high low) = changed (λ c. record c { inst = record c.inst { rb = high; rt = low } }) r
+read r (place_symbol w) = changed (λ c. record c { place = Some w }) r
+read r (target t) = changed (λ c. record c { target = Some t }) r
+
+abbrev pub blank : Op → Coded
+blank o = record { inst = record { op = o; rt = 0; ra = 0; rb = 0; rc = 0; imm = pos 0 }; place = None; target = None }
+
+-- the instruction that an operation and its operands are, or A5 or A6
+abbrev pub coded : Op → List (List Lexeme) → Reading
+coded o os = fold read (Ok (blank o)) (all_given o (left (is_optional o) (slots_of o) (length os)) os)
+
+-- ---- what the code gives
+
+abbrev pub target_in : CodeTarget → Target
+target_in t = record { name = t.name.now; addend = t.addend }
+
+abbrev pub given_in : CodeGiven → Given
+given_in code.Bad = bad
+given_in code.Far = far
+given_in (code.Register f n) = register f n
+given_in (code.Immediate n) = immediate n
+given_in (code.NineBits high low) = nine_bits high low
+given_in (code.PlaceSymbol w) = place_symbol w.now
+given_in (code.Target t) = target (target_in t)
+
+abbrev pub coded_in : CodeCoded → Coded
+coded_in c = record { inst = c.inst; place = option_map (λ (w : Bor (List ℕ)). w.now) c.place; target = option_map target_in c.target }
+
+abbrev pub reading_in : Result CodeCoded AsmKind → Reading
+reading_in (Ok c) = Ok (coded_in c)
+reading_in (Err k) = Err k

@@ -1,0 +1,15 @@
+-- A small object on which the promise of a link is tried: `main` sends 5 to the outbound mailbox and returns.
+use Rattle.std.specs.Prelude.{[], ◌∷◌, codes}
+use Rattle.std.specs.List.{flat_map}
+use Rattle.spu_word.specs.Bytes.{be_digits}
+use Rattle.spu_elf.specs.declared.objects.SecKind.TheVariants as kinds
+use Rattle.spu_elf.specs.declared.objects.Section.{Section}
+use Rattle.spu_elf.specs.declared.objects.Object.{Object}
+use Rattle.spu_lift.specs.FirstForm.{object_of}
+
+-- il $3,5; wrch 28,$3; bi $0
+abbrev pub sample_text : Section
+sample_text = record { name = codes ".text"; kind = kinds.Code; align = 8; size = 12; bytes = flat_map be_digits (0x40800283 ∷ 0x21a00e03 ∷ 0x35000000 ∷ []) }
+
+abbrev pub sample : Object
+sample = object_of sample_text

@@ -1,0 +1,4 @@
+pub mod Layouts
+pub mod Labels
+pub mod Placing
+pub mod Views

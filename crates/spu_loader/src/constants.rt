@@ -1,0 +1,70 @@
+//! The numbers of the loader: its words, what stands behind them, and its transfers.
+
+/// How many words the loader has.
+pub const LOADER_WORDS: usize = 66;
+
+/// Their bytes.
+pub const LOADER_CODE_SIZE: u32 = 264;
+
+/// The bytes of its words and of the two zero words behind them. The mapped quadwords follow, one for each buffer.
+pub const LOADER_SIZE: u32 = 272;
+
+/// The bytes of the three quadwords behind the mapped ones.
+pub const CONSTANTS_SIZE: u32 = 48;
+
+/// Bytes that its words and quadwords never fill, whatever the number of buffers.
+pub const LOADER_ROOM: u32 = 512;
+
+/// The word to which a return into a region comes.
+pub const RETURN_WORD: u32 = 63;
+
+/// Where it stands, in bytes behind the loader's first word.
+pub const RETURN_OFFSET: u32 = 4 * RETURN_WORD;
+
+/// The word that tests whether a region is mapped.
+pub const TEST_WORD: u32 = 15;
+
+/// The word behind it, where a region that isn't mapped is looked up.
+pub const FETCH_WORD: u32 = 24;
+
+/// The first word that describes a transfer.
+pub const COMMAND_WORD: u32 = 31;
+
+/// The word behind its command, which goes on to the next one.
+pub const STEP_WORD: u32 = 49;
+
+/// The first word that waits for the transfers.
+pub const WAIT_WORD: u32 = 54;
+
+/// The word that goes on to the place that is asked for.
+pub const EXIT_WORD: u32 = 62;
+
+/// The words of a stub.
+pub const STUB_WORDS: usize = 4;
+
+/// Their bytes.
+pub const STUB_SIZE: u32 = 16;
+
+/// The tag of the loader's transfers.
+pub const LOADER_TAG: u32 = 31;
+
+/// The most transfers by which a region is loaded.
+pub const LOAD_TRANSFERS: u32 = 4;
+
+/// The least buffer has two to this power of bytes.
+pub const LEAST_SHIFT: u32 = 10;
+
+/// The greatest buffer has two to this power of bytes.
+pub const MOST_SHIFT: u32 = 16;
+
+/// The register of a call's link.
+pub const LINK_REGISTER: u32 = 0;
+
+/// The register of the stack pointer.
+pub const STACK_REGISTER: u32 = 1;
+
+/// The first of the registers that the loader uses for itself.
+pub const FIRST_REGISTER: u32 = 75;
+
+/// The last of them.
+pub const LAST_REGISTER: u32 = 79;
