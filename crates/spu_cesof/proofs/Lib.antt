@@ -1,1 +1,3 @@
 pub mod NameParts
+pub mod Parts
+pub mod Spelled

@@ -26,7 +26,7 @@ use spu_word::{Name, OutOfMemory, Seq};
 use std::alloc::Global;
 
 /// The names that a table begins with, so many of them.
-#[tactic(auto, using(crate::proofs::NameParts::names_from, crate::proofs::NameParts::names_done, crate::proofs::NameParts::joined_more, crate::proofs::NameParts::shorter))]
+#[tactic(auto, using(crate::proofs::NameParts::names_done))]
 fn names_in(alloc: Global, names: &[u8], count: usize) -> Result<Seq<Name>, OutOfMemory>
     requires few { count ≤ MAX_FILE_SIZE }
     requires names { length names.now ≤ MAX_FILE_SIZE }
