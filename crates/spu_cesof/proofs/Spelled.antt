@@ -40,14 +40,14 @@ grouped name names file gs =
     let n = 1 + length (object_sections (length names) file) + length gs in
     with_tables n (object_symbols name names) (fold added (fold added (blank 128) (first_parts (length names) file)) (map (relocation_part n) gs))
 
-draft_is : (name : List ℕ) (names : List (List ℕ)) (file : List ℕ) → draft_from 128 (object_of name names file) ≡ fold added (blank 128) (all_parts name names file)
+pub draft_is : (name : List ℕ) (names : List (List ℕ)) (file : List ℕ) → draft_from 128 (object_of name names file) ≡ fold added (blank 128) (all_parts name names file)
 draft_is name names file = ap (grouped name names file) (groups_are (length names) file names) ∙ cases names
   where
     cases : (names : List (List ℕ)) → grouped name names file (group_list names) ≡ fold added (blank 128) (all_parts name names file)
     cases [] = tables_draft 128 4 (object_parts [] file) (object_symbols name [])
     cases (x ∷ xs) = tables_draft 128 5 (object_parts (x ∷ xs) file) (object_symbols name (x ∷ xs))
 
-some : (x : List ℕ) (xs : List (List ℕ)) → (length (x ∷ xs) == 0) ≡ false
+pub some : (x : List ℕ) (xs : List (List ℕ)) → (length (x ∷ xs) == 0) ≡ false
 some x xs = ne_eqb (length (x ∷ xs)) 0 (λ e. omega (arith, e))
 
 names_are : (names : List (List ℕ)) (file : List ℕ) → all_names (object_parts names file) ≡ section_names (length names)
@@ -88,7 +88,7 @@ body_text p name names file =
     ++ (flat_map relocation (toe_relocs 0 names) ++ (flat_map relocation handle_relocs
     ++ (entries_of name names ++ (strings_of name names ++ section_names p.entries)))))))
 
-length_toe : (k : ℕ) (names : List (List ℕ)) → length (flat_map relocation (toe_relocs k names)) ≡ 12 * length names
+pub length_toe : (k : ℕ) (names : List (List ℕ)) → length (flat_map relocation (toe_relocs k names)) ≡ 12 * length names
 length_toe k [] = refl
 length_toe k (x ∷ xs) = omega (arith, length_toe (k + 1) xs, length_relocations (toe_relocs k (x ∷ xs)), length_relocations (toe_relocs (k + 1) xs))
 
@@ -191,7 +191,7 @@ rest_rows p =
 abbrev pub rows_text : Places → List ℕ
 rows_text p = row (image_row p) ++ (row (toe_row p) ++ (row (handle_row p) ++ rest_rows p))
 
-length_names : (n : ℕ) → length (section_names n) ≡ names_size n
+pub length_names : (n : ℕ) → length (section_names n) ≡ names_size n
 length_names n = by_test (n == 0)
   where
     by_test : (t : Bool) → length ((0 ∷ codes ".rodata.speelf" ++ 0 ∷ codes ".data.spetoe" ++ 0 ∷ codes ".data.spehandle" ++ 0 ∷ []) ++ (if t then [] else codes ".rela.data.spetoe" ++ 0 ∷ []) ++ (codes ".rela.data.spehandle" ++ 0 ∷ codes ".symtab" ++ 0 ∷ codes ".strtab" ++ 0 ∷ codes ".shstrtab" ++ 0 ∷ [])) ≡ 45 + (if t then 0 else 18) + 21 + 16 + 10
