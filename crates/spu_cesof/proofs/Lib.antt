@@ -2,3 +2,5 @@ pub mod NameParts
 pub mod Parts
 pub mod Spelled
 pub mod Whole
+pub mod NamesBack
+pub mod Back
