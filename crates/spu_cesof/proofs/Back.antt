@@ -1,9 +1,9 @@
 -- An object with no fault is the embedding of what it is read as.
-use Rattle.std.proofs.Common.{◌≡◌, ℕ, zero, suc, ◌+◌, ◌-◌, ◌*◌, ◌/◌, ◌%◌, ◌<◌, ◌≤◌, Bool, true, false, not, List, [], ◌∷◌, ◌++◌, length, take, drop, map, replicate, get_or, slice_index, Option, Some, None, nat_lt, nat_le, if◌then◌else◌, ◌==◌, refl, sym, ap, subst, ◌∙◌, append_assoc, append-nil, arith}
+use Rattle.std.proofs.Common.{◌≡◌, ℕ, zero, suc, ◌+◌, ◌-◌, ◌*◌, ◌/◌, ◌%◌, ◌<◌, ◌≤◌, Bool, true, false, not, List, [], ◌∷◌, ◌++◌, length, take, drop, map, replicate, get_or, slice_index, Option, Some, None, nat_lt, nat_le, if◌then◌else◌, ◌==◌, refl, sym, ap, subst, ◌∙◌, append_assoc, append-nil, ne_eqb, arith}
 use Rattle.std.specs.List.{flat_map, All}
 use Rattle.std.proofs.lemmas.Bool.{ltb-false, eqb-true}
 use Rattle.std.proofs.lemmas.List.{length-append, length-take, length-drop, length-map, length-replicate}
-use Rattle.std.proofs.lemmas.List.Elements.{All-head, All-tail}
+use Rattle.std.proofs.lemmas.List.Elements.{All-nil, All-cons, All-head, All-tail}
 use Rattle.spu_word.specs.Bytes.{be_digits, be_half_digits, be_number, be_half_number}
 use Rattle.spu_word.proofs.Stands.{Stands, stands_at, stands_slice, stands_whole}
 use Rattle.spu_elf.specs.Checks.{fails, ◌then_check◌, byte_check, word_check, bytes_check, halves_check, words_check, zeros_check}
@@ -22,6 +22,8 @@ use Rattle.spu_cesof.specs.Outline.{section_count, symbols_number, sections_in, 
 use Rattle.spu_cesof.specs.Unpacking.{names_in, strings_in, name_in, entry_names_in, joined, front_check, row_check, sections_check, relocs_rows_check, tables_check, heads_check, padding_check, symbol_check, named_checks, section_symbols_check, symbols_check, names_check, strings_check, end_check, object_check, handle_check, toe_check}
 use Rattle.spu_cesof.specs.declared.places.Places.{Places}
 use Rattle.spu_cesof.proofs.Spelled.{Laid, Fits, strings_of, entries_of, row, some}
+use Rattle.spu_elf.specs.Validity.{IsName, IsValidExec}
+use Rattle.spu_elf.proofs.SpelledSymbols.{byte_stands}
 use Rattle.spu_cesof.proofs.NamesBack.{Printed, null_stands, symbol_stands, Named, left_of, NamedBack, named_back, entries_named, length_names_in, names_joined, NamesBack, names_back}
 
 -- ---- the header of the file
@@ -173,3 +175,136 @@ symbols_row_stands : (b : List ℕ) (p : Places) (at : ℕ) → Stands at (row (
 symbols_row_stands b p at first info last =
     stands_join at (at + 28) (row (take 7 (symbols_row p))) (be_digits 4 ++ row (drop 8 (symbols_row p))) b (omega arith) first
     (stands_join (at + 28) (at + 32) (be_digits 4) (row (drop 8 (symbols_row p))) b (omega arith) info last)
+
+-- ---- the places
+
+pub laid_in : (b : List ℕ) → Laid (places_in b)
+unfolding places_in
+laid_in b = record { toe = refl; handle = refl; toe_relocs = refl; handle_relocs = refl; symbols = refl; strings = refl; names = refl; end = refl }
+
+not_none : (n : ℕ) → (n == 0) ≡ false → 0 < n
+not_none zero e = absurd cc
+not_none (suc n) e = omega arith
+
+positive : (n : ℕ) → 0 < at_least_one n
+positive n = by_test (n == 0) refl
+  where
+    by_test : (t : Bool) → (n == 0) ≡ t → 0 < (if t then 1 else n)
+    by_test true e = omega arith
+    by_test false e = not_none n e
+
+nine : (n : ℕ) → 0 < n → section_count n ≡ 9
+nine n lt = ap (λ (t : Bool). 9 - 1 + (if t then 0 else 1)) (ne_eqb n 0 (λ e. omega (arith, e)))
+
+pub count_in : (b : List ℕ) → section_count (places_in b).entries ≡ sections_in b
+unfolding places_in
+count_in b = by_test (be_half_number b 48 == 8)
+  where
+    by_test : (t : Bool) → section_count (if (if t then 8 else 9) == 9 then at_least_one (be_number b (be_number b 32 + 100) / 16) else 0) ≡ (if t then 8 else 9)
+    by_test true = refl
+    by_test false = nine (at_least_one (be_number b (be_number b 32 + 100) / 16)) (positive (be_number b (be_number b 32 + 100) / 16))
+
+pub shoff_in : (b : List ℕ) → (places_in b).headers ≡ be_number b 32
+unfolding places_in
+shoff_in b = refl
+
+pub strings_some : (b : List ℕ) → 0 < (places_in b).strings_size
+unfolding places_in
+strings_some b = positive (be_number b (be_number b 32 + (40 * (sections_in b - 2) + 20)))
+
+-- ---- symbols
+
+abbrev named_of : List ℕ → Places → List Symbol
+named_of b p = named_symbols (name_in b p) (entry_names_in b p)
+
+record SymbolsThere (b : List ℕ) (p : Places) : Type 0 where
+  entries : Stands p.symbols (entries_of (name_in b p) (entry_names_in b p)) b
+  info : Stands (p.headers + 40 * symbols_number p.entries + 28) (be_digits 4) b
+  split : strings_in b p ≡ symbol_names (named_of b p) ++ left_of (strings_in b p) (named_of b p)
+  each : All (λ (s : Symbol). 0 < length s.name) (named_of b p)
+
+length_strings_in : (b : List ℕ) (p : Places) → 0 < p.strings_size → p.strings + p.strings_size ≤ length b → 1 + length (strings_in b p) ≡ p.strings_size
+length_strings_in b p lt le = omega (arith, length-drop 1 (take p.strings_size (drop p.strings b)), length-take p.strings_size (drop p.strings b), length-drop p.strings b)
+
+symbols_there : (b : List ℕ) (p : Places) → IsBytes b → Laid p → 0 < p.strings_size → p.names ≤ length b → symbols_check b p ≡ None → SymbolsThere b p
+unfolding symbols_check section_symbols_check
+symbols_there b p fits l lt inside e =
+    let y : ℕ = p.symbols in
+    let named : List Symbol = named_of b p in
+    let n : ℕ = symbols_number p.entries in
+    let c1 : Option ElfFault = null_check b y then_check symbol_check b (y + 16) 0 (section_symbol 0) then_check symbol_check b (y + 32) 0 (section_symbol 1) then_check symbol_check b (y + 48) 0 (section_symbol 2) in
+    let c2 : Option ElfFault = named_checks b p (y + 64) 1 named in
+    let c3 : Option ElfFault = word_check b kinds.BadTable (p.headers + 40 * n + 28) 4 in
+    let p1 = both_pass c1 (c2 then_check c3) e in
+    let p2 = both_pass c2 c3 p1.1 in
+    let q1 = both_pass (null_check b y) (symbol_check b (y + 16) 0 (section_symbol 0) then_check symbol_check b (y + 32) 0 (section_symbol 1) then_check symbol_check b (y + 48) 0 (section_symbol 2)) p1.0 in
+    let q2 = both_pass (symbol_check b (y + 16) 0 (section_symbol 0)) (symbol_check b (y + 32) 0 (section_symbol 1) then_check symbol_check b (y + 48) 0 (section_symbol 2)) q1.1 in
+    let q3 = both_pass (symbol_check b (y + 32) 0 (section_symbol 1)) (symbol_check b (y + 48) 0 (section_symbol 2)) q2.1 in
+    let many : length named ≡ 1 + p.entries = omega (arith, length-map (entry_names_in b p) entry_symbol, length_names_in (after_name (strings_in b p)) p.entries) in
+    let room : y + 64 + 16 * length named ≤ length b = omega (arith, many, l.strings, l.names, inside) in
+    let back : NamedBack b (y + 64) 1 (strings_in b p) named = named_back b p (y + 64) 1 (strings_in b p) named fits room (refl, entries_named (after_name (strings_in b p)) p.entries) (length_strings_in b p lt (omega (arith, l.names, inside))) p2.0 in
+    let e3 : List ℕ = entries_text 1 named in
+    let t2 : List ℕ = entry_text 0 (section_symbol 2) in
+    let t1 : List ℕ = entry_text 0 (section_symbol 1) in
+    let t0 : List ℕ = entry_text 0 (section_symbol 0) in
+    let s3 : Stands (y + 48) (t2 ++ e3) b = stands_join (y + 48) (y + 64) t2 e3 b (omega arith) (symbol_stands b (y + 48) 0 (section_symbol 2) fits (omega (arith, room)) q3.1) back.stands in
+    let s2 : Stands (y + 32) (t1 ++ (t2 ++ e3)) b = stands_join (y + 32) (y + 48) t1 (t2 ++ e3) b (omega arith) (symbol_stands b (y + 32) 0 (section_symbol 1) fits (omega (arith, room)) q3.0) s3 in
+    let s1 : Stands (y + 16) (t0 ++ (t1 ++ (t2 ++ e3))) b = stands_join (y + 16) (y + 32) t0 (t1 ++ (t2 ++ e3)) b (omega arith) (symbol_stands b (y + 16) 0 (section_symbol 0) fits (omega (arith, room)) q2.0) s2 in
+    let s0 : Stands y (replicate 16 0 ++ (t0 ++ (t1 ++ (t2 ++ e3)))) b = stands_join y (y + 16) (replicate 16 0) (t0 ++ (t1 ++ (t2 ++ e3))) b (omega arith) (null_stands b y fits (omega (arith, room)) q1.0) s1 in
+    record {
+      entries = subst (λ (z : List ℕ). Stands y z b) (sym (ap (λ (t : Symbols). t.entries) (table_is (object_symbols (name_in b p) (entry_names_in b p))))) s0;
+      info = word_stands b kinds.BadTable (p.headers + 40 * n + 28) 4 fits p2.1;
+      split = back.split;
+      each = back.each;
+    }
+
+-- ---- string tables
+
+record StringsThere (b : List ℕ) (p : Places) : Type 0 where
+  strings : Stands p.strings (0 ∷ joined (name_in b p ∷ entry_names_in b p)) b
+  is : strings_of (name_in b p) (entry_names_in b p) ≡ 0 ∷ joined (name_in b p ∷ entry_names_in b p)
+  size : length (strings_of (name_in b p) (entry_names_in b p)) ≡ p.strings_size
+  names : Stands p.names (section_names p.entries) b
+  each : All Printed (name_in b p ∷ entry_names_in b p)
+  named : IsName (name_in b p)
+
+begins_zero : (at : ℕ) (text b : List ℕ) → 0 < length text → Stands at text b → slice_index b at ≡ 0 → text ≡ 0 ∷ drop 1 text
+begins_zero at [] b lt s e = absurd (omega arith)
+begins_zero at (c ∷ cs) b lt s e = ap (λ (x : ℕ). x ∷ cs) (sym (byte_stands at c b (stands_left at (c ∷ []) cs b s)) ∙ e)
+
+nothing : (xs : List ℕ) → length xs ≡ 0 → xs ≡ []
+nothing [] e = refl
+nothing (x ∷ xs) e = absurd (omega arith)
+
+strings_there : (b : List ℕ) (p : Places) → IsBytes b → Laid p → 0 < p.strings_size → p.names ≤ length b → SymbolsThere b p → strings_check b p ≡ None → StringsThere b p
+unfolding strings_check
+strings_there b p fits l lt inside t e =
+    let name : List ℕ = name_in b p in
+    let names : List (List ℕ) = entry_names_in b p in
+    let c1 : Option ElfFault = byte_check b kinds.BadName p.strings 0 in
+    let c2 : Option ElfFault = names_check p.names (p.strings + 1) (name ∷ names) in
+    let c3 : Option ElfFault = bytes_check b kinds.BadName p.names (section_names p.entries) in
+    let p1 = both_pass c1 (c2 then_check c3) e in
+    let p2 = both_pass c2 c3 p1.1 in
+    let back : NamesBack p.names (p.strings + 1) (name ∷ names) = names_back p.names (p.strings + 1) (name ∷ names) p2.0 in
+    let rest : List ℕ = strings_in b p in
+    let left : List ℕ = left_of rest (named_of b p) in
+    let some : 0 < length name = All-head (λ (s : Symbol). 0 < length s.name) (handle_symbol name) (map entry_symbol names) t.each in
+    let each : All (λ (s : Symbol). 0 < length s.name) (map entry_symbol (name ∷ names)) = All-cons (λ (s : Symbol). 0 < length s.name) (entry_symbol name) (map entry_symbol names) some (All-tail (λ (s : Symbol). 0 < length s.name) (handle_symbol name) (map entry_symbol names) t.each) in
+    let text : symbol_names (named_of b p) ≡ joined (name ∷ names) = names_joined (name ∷ names) each in
+    let long : 1 + length rest ≡ p.strings_size = length_strings_in b p lt (omega (arith, l.names, inside)) in
+    let own : rest ≡ joined (name ∷ names) ++ left = t.split ∙ ap (λ (z : List ℕ). z ++ left) text in
+    let none : left ≡ [] = nothing left (omega (arith, ap length own, length-append (joined (name ∷ names)) left, long, back.all, l.names)) in
+    let all : rest ≡ joined (name ∷ names) = own ∙ ap (λ (z : List ℕ). joined (name ∷ names) ++ z) none ∙ append-nil (joined (name ∷ names)) in
+    let table : List ℕ = take p.strings_size (drop p.strings b) in
+    let there : Stands p.strings table b = stands_part p.strings p.strings_size b (omega (arith, l.names, inside)) in
+    let zero_first : table ≡ 0 ∷ rest = begins_zero p.strings table b (omega (arith, length-take p.strings_size (drop p.strings b), length-drop p.strings b, l.names, inside)) there (byte_same b kinds.BadName p.strings 0 p1.0) in
+    let is : strings_of name names ≡ 0 ∷ joined (name ∷ names) = ap (λ (s : Symbols). s.strings) (table_is (object_symbols name names)) ∙ ap (λ (z : List ℕ). 0 ∷ z) text in
+    record {
+      strings = subst (λ (z : List ℕ). Stands p.strings z b) (zero_first ∙ ap (λ (z : List ℕ). 0 ∷ z) all) there;
+      is = is;
+      size = ap length is ∙ omega (arith, ap length all, long);
+      names = bytes_stand b kinds.BadName p.names (section_names p.entries) inside p2.1;
+      each = back.each;
+      named = record { some = some; short = All-head (λ (x : List ℕ). length x ≤ 1023) name names back.short; printed = All-head Printed name names back.each };
+    }
