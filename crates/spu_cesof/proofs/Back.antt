@@ -70,12 +70,12 @@ ident b e =
     same : (x y : ℕ) (k : ElfKind) (place : ℕ) → fails (not (x == y)) k place ≡ None → x ≡ y
     same x y k place f = eqb-true x y (was_true (x == y) (not_failing (not (x == y)) k place f))
 
-record FrontBack (b : List ℕ) : Type 0 where
-  small : length b ≤ 4194304
-  long : 52 ≤ length b
-  stands : Stands 0 (elf_header 20 1 0 0 (be_number b 32) 0 0 (sections_in b)) b
+pub record FrontBack (b : List ℕ) : Type 0 where
+  pub small : length b ≤ 4194304
+  pub long : 52 ≤ length b
+  pub stands : Stands 0 (elf_header 20 1 0 0 (be_number b 32) 0 0 (sections_in b)) b
 
-front_back : (b : List ℕ) → IsBytes b → front_check b ≡ None → FrontBack b
+pub front_back : (b : List ℕ) → IsBytes b → front_check b ≡ None → FrontBack b
 unfolding front_check
 front_back b fits e =
     let n : ℕ = sections_in b in
@@ -120,20 +120,20 @@ words_back b at (v ∷ vs) fits lt e = words_stand b kinds.BadTable at v vs fits
 row_back : (b : List ℕ) (p : Places) (k : ℕ) (ws : List ℕ) → IsBytes b → 0 < length ws → row_check b p k ws ≡ None → Stands (p.headers + 40 * k) (row ws) b
 row_back b p k ws fits lt e = words_back b (p.headers + 40 * k) ws fits lt e
 
-record RowsBack (b : List ℕ) (p : Places) : Type 0 where
-  null : Stands p.headers (replicate 40 0) b
-  image : Stands (p.headers + 40 * 1) (row (image_row p)) b
-  toe : Stands (p.headers + 40 * 2) (row (toe_row p)) b
-  handle : Stands (p.headers + 40 * 3) (row (handle_row p)) b
-  toe_relocs : Stands (p.headers + 40 * 4) (row (toe_relocs_row p)) b
-  handle_relocs : Stands (p.headers + 40 * (symbols_number p.entries - 1)) (row (handle_relocs_row p)) b
-  symbols : Stands (p.headers + 40 * symbols_number p.entries) (row (take 7 (symbols_row p))) b
-  symbols_rest : Stands (p.headers + 40 * symbols_number p.entries + 32) (row (drop 8 (symbols_row p))) b
-  strings : Stands (p.headers + 40 * (symbols_number p.entries + 1)) (row (strings_row p)) b
-  names : Stands (p.headers + 40 * (symbols_number p.entries + 2)) (row (names_row p)) b
-  place : p.headers ≡ p.end + padding 4 p.end
+pub record RowsBack (b : List ℕ) (p : Places) : Type 0 where
+  pub null : Stands p.headers (replicate 40 0) b
+  pub image : Stands (p.headers + 40 * 1) (row (image_row p)) b
+  pub toe : Stands (p.headers + 40 * 2) (row (toe_row p)) b
+  pub handle : Stands (p.headers + 40 * 3) (row (handle_row p)) b
+  pub toe_relocs : Stands (p.headers + 40 * 4) (row (toe_relocs_row p)) b
+  pub handle_relocs : Stands (p.headers + 40 * (symbols_number p.entries - 1)) (row (handle_relocs_row p)) b
+  pub symbols : Stands (p.headers + 40 * symbols_number p.entries) (row (take 7 (symbols_row p))) b
+  pub symbols_rest : Stands (p.headers + 40 * symbols_number p.entries + 32) (row (drop 8 (symbols_row p))) b
+  pub strings : Stands (p.headers + 40 * (symbols_number p.entries + 1)) (row (strings_row p)) b
+  pub names : Stands (p.headers + 40 * (symbols_number p.entries + 2)) (row (names_row p)) b
+  pub place : p.headers ≡ p.end + padding 4 p.end
 
-rows_back : (b : List ℕ) (p : Places) → IsBytes b → heads_check b p ≡ None → RowsBack b p
+pub rows_back : (b : List ℕ) (p : Places) → IsBytes b → heads_check b p ≡ None → RowsBack b p
 unfolding heads_check sections_check relocs_rows_check tables_check
 rows_back b p fits e =
     let n : ℕ = symbols_number p.entries in
@@ -171,7 +171,7 @@ rows_back b p fits e =
     by_test false le f = row_back b p 4 (section_words 45 p.toe_relocs (relocations_head (symbols_number p.entries) 2 (12 * p.entries))) fits (omega arith) f
 
 -- the header of the symbol table, with its info
-symbols_row_stands : (b : List ℕ) (p : Places) (at : ℕ) → Stands at (row (take 7 (symbols_row p))) b → Stands (at + 28) (be_digits 4) b → Stands (at + 32) (row (drop 8 (symbols_row p))) b → Stands at (row (symbols_row p)) b
+pub symbols_row_stands : (b : List ℕ) (p : Places) (at : ℕ) → Stands at (row (take 7 (symbols_row p))) b → Stands (at + 28) (be_digits 4) b → Stands (at + 32) (row (drop 8 (symbols_row p))) b → Stands at (row (symbols_row p)) b
 symbols_row_stands b p at first info last =
     stands_join at (at + 28) (row (take 7 (symbols_row p))) (be_digits 4 ++ row (drop 8 (symbols_row p))) b (omega arith) first
     (stands_join (at + 28) (at + 32) (be_digits 4) (row (drop 8 (symbols_row p))) b (omega arith) info last)
@@ -214,19 +214,19 @@ strings_some b = positive (be_number b (be_number b 32 + (40 * (sections_in b - 
 
 -- ---- symbols
 
-abbrev named_of : List ℕ → Places → List Symbol
+abbrev pub named_of : List ℕ → Places → List Symbol
 named_of b p = named_symbols (name_in b p) (entry_names_in b p)
 
-record SymbolsThere (b : List ℕ) (p : Places) : Type 0 where
-  entries : Stands p.symbols (entries_of (name_in b p) (entry_names_in b p)) b
-  info : Stands (p.headers + 40 * symbols_number p.entries + 28) (be_digits 4) b
-  split : strings_in b p ≡ symbol_names (named_of b p) ++ left_of (strings_in b p) (named_of b p)
-  each : All (λ (s : Symbol). 0 < length s.name) (named_of b p)
+pub record SymbolsThere (b : List ℕ) (p : Places) : Type 0 where
+  pub entries : Stands p.symbols (entries_of (name_in b p) (entry_names_in b p)) b
+  pub info : Stands (p.headers + 40 * symbols_number p.entries + 28) (be_digits 4) b
+  pub split : strings_in b p ≡ symbol_names (named_of b p) ++ left_of (strings_in b p) (named_of b p)
+  pub each : All (λ (s : Symbol). 0 < length s.name) (named_of b p)
 
 length_strings_in : (b : List ℕ) (p : Places) → 0 < p.strings_size → p.strings + p.strings_size ≤ length b → 1 + length (strings_in b p) ≡ p.strings_size
 length_strings_in b p lt le = omega (arith, length-drop 1 (take p.strings_size (drop p.strings b)), length-take p.strings_size (drop p.strings b), length-drop p.strings b)
 
-symbols_there : (b : List ℕ) (p : Places) → IsBytes b → Laid p → 0 < p.strings_size → p.names ≤ length b → symbols_check b p ≡ None → SymbolsThere b p
+pub symbols_there : (b : List ℕ) (p : Places) → IsBytes b → Laid p → 0 < p.strings_size → p.names ≤ length b → symbols_check b p ≡ None → SymbolsThere b p
 unfolding symbols_check section_symbols_check
 symbols_there b p fits l lt inside e =
     let y : ℕ = p.symbols in
@@ -260,13 +260,13 @@ symbols_there b p fits l lt inside e =
 
 -- ---- string tables
 
-record StringsThere (b : List ℕ) (p : Places) : Type 0 where
-  strings : Stands p.strings (0 ∷ joined (name_in b p ∷ entry_names_in b p)) b
-  is : strings_of (name_in b p) (entry_names_in b p) ≡ 0 ∷ joined (name_in b p ∷ entry_names_in b p)
-  size : length (strings_of (name_in b p) (entry_names_in b p)) ≡ p.strings_size
-  names : Stands p.names (section_names p.entries) b
-  each : All Printed (name_in b p ∷ entry_names_in b p)
-  named : IsName (name_in b p)
+pub record StringsThere (b : List ℕ) (p : Places) : Type 0 where
+  pub strings : Stands p.strings (0 ∷ joined (name_in b p ∷ entry_names_in b p)) b
+  pub is : strings_of (name_in b p) (entry_names_in b p) ≡ 0 ∷ joined (name_in b p ∷ entry_names_in b p)
+  pub size : length (strings_of (name_in b p) (entry_names_in b p)) ≡ p.strings_size
+  pub names : Stands p.names (section_names p.entries) b
+  pub each : All Printed (name_in b p ∷ entry_names_in b p)
+  pub named : IsName (name_in b p)
 
 begins_zero : (at : ℕ) (text b : List ℕ) → 0 < length text → Stands at text b → slice_index b at ≡ 0 → text ≡ 0 ∷ drop 1 text
 begins_zero at [] b lt s e = absurd (omega arith)
@@ -276,7 +276,7 @@ nothing : (xs : List ℕ) → length xs ≡ 0 → xs ≡ []
 nothing [] e = refl
 nothing (x ∷ xs) e = absurd (omega arith)
 
-strings_there : (b : List ℕ) (p : Places) → IsBytes b → Laid p → 0 < p.strings_size → p.names ≤ length b → SymbolsThere b p → strings_check b p ≡ None → StringsThere b p
+pub strings_there : (b : List ℕ) (p : Places) → IsBytes b → Laid p → 0 < p.strings_size → p.names ≤ length b → SymbolsThere b p → strings_check b p ≡ None → StringsThere b p
 unfolding strings_check
 strings_there b p fits l lt inside t e =
     let name : List ℕ = name_in b p in

@@ -4,3 +4,4 @@ pub mod Spelled
 pub mod Whole
 pub mod NamesBack
 pub mod Back
+pub mod BackWhole

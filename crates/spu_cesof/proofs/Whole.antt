@@ -96,6 +96,10 @@ all_joined b at x (y ∷ ys) f s =
     let rest : Stands (x.place + length x.text) (together (y ∷ ys)) b = all_joined b (x.place + length x.text) y ys f.1 s.1 in
     subst (λ (k : ℕ). Stands k (together (x ∷ y ∷ ys)) b) (sym f.0) (stands_join x.place (x.place + length x.text) x.text (together (y ∷ ys)) b refl s.0 rest)
 
+pub all_together : (b : List ℕ) (at : ℕ) (xs : List Piece) → 0 < length xs → Follow at xs → AllStand b xs → Stands at (together xs) b
+all_together b at [] lt f s = absurd (omega arith)
+all_together b at (x ∷ xs) lt f s = all_joined b at x xs f s
+
 -- ---- those of the object
 
 abbrev pub pieces : Places → List ℕ → List (List ℕ) → List ℕ → List Piece
@@ -134,7 +138,7 @@ relocs_by : (p : Places) (t : Bool) → p.headers + 40 * 4 + length (row (if t t
 relocs_by p true = omega arith
 relocs_by p false = omega arith
 
-some_by : (t : Bool) → 5 ≤ number_by t
+pub some_by : (t : Bool) → 5 ≤ number_by t
 some_by true = omega arith
 some_by false = omega arith
 
