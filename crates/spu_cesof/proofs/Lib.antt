@@ -5,3 +5,4 @@ pub mod Whole
 pub mod NamesBack
 pub mod Back
 pub mod BackWhole
+pub mod Forth

@@ -184,7 +184,7 @@ names_back end at (x ∷ xs) e =
 
 -- ---- names are read one by one
 
-cut_name : (x rest : List ℕ) → Printed x → (take (name_len (x ++ 0 ∷ rest)) (x ++ 0 ∷ rest) ≡ x) × (after_name (x ++ 0 ∷ rest) ≡ rest)
+pub cut_name : (x rest : List ℕ) → Printed x → (take (name_len (x ++ 0 ∷ rest)) (x ++ 0 ∷ rest) ≡ x) × (after_name (x ++ 0 ∷ rest) ≡ rest)
 cut_name x rest printed =
     let len : name_len (x ++ 0 ∷ rest) ≡ length x = name_ends x rest printed in
     (ap (λ (n : ℕ). take n (x ++ 0 ∷ rest)) len ∙ take_at x (0 ∷ rest) (length x) refl,
