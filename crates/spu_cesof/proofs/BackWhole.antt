@@ -177,11 +177,11 @@ handle_back b p l inside e =
 -- ---- the whole
 
 -- where texts one behind the other end
-abbrev end_of : ℕ → List Piece → ℕ
+abbrev pub end_of : ℕ → List Piece → ℕ
 end_of at [] = at
 end_of at (x ∷ xs) = end_of (x.place + length x.text) xs
 
-length_together : (at : ℕ) (xs : List Piece) → Follow at xs → at + length (together xs) ≡ end_of at xs
+pub length_together : (at : ℕ) (xs : List Piece) → Follow at xs → at + length (together xs) ≡ end_of at xs
 length_together at [] f = omega arith
 length_together at (x ∷ xs) f = omega (arith, f.0, length-append x.text (together xs), length_together (x.place + length x.text) xs f.1)
 

@@ -57,12 +57,12 @@ entries_by n false e = refl
 strings_by : (n : ℕ) → 0 < n → at_least_one n ≡ n
 strings_by n lt = ap (λ (t : Bool). if t then 1 else n) (ne_eqb n 0 (λ e. omega (arith, e)))
 
-record Read (b : List ℕ) (p : Places) : Type 0 where
-  shoff : be_number b 32 ≡ p.headers
-  sections : sections_in b ≡ section_count p.entries
-  places : places_in b ≡ p
+pub record Read (b : List ℕ) (p : Places) : Type 0 where
+  pub shoff : be_number b 32 ≡ p.headers
+  pub sections : sections_in b ≡ section_count p.entries
+  pub places : places_in b ≡ p
 
-read : (b : List ℕ) (p : Places) (name : List ℕ) (names : List (List ℕ)) (file : List ℕ) → IsObject b p name names file → 0 < p.strings_size → Read b p
+pub read : (b : List ℕ) (p : Places) (name : List ℕ) (names : List (List ℕ)) (file : List ℕ) → IsObject b p name names file → 0 < p.strings_size → Read b p
 unfolding places_in
 read b p name names file w some =
     let h : ℕ = p.headers in
@@ -135,7 +135,7 @@ idents b s n long small st =
     (pass_both _ _ (equal _ _ kinds.WrongClass 6 version)
     (pass_both _ _ (equal _ _ kinds.WrongMachine 18 machine) (equal _ _ kinds.WrongKind 16 kind)))))))
 
-front_passes : (b : List ℕ) (s n : ℕ) → 52 ≤ length b → length b ≤ 4194304 → s < 2 ^ 32 → n ≤ 9 → be_number b 32 ≡ s → sections_in b ≡ n → Stands 0 (header s n) b → front_check b ≡ None
+pub front_passes : (b : List ℕ) (s n : ℕ) → 52 ≤ length b → length b ≤ 4194304 → s < 2 ^ 32 → n ≤ 9 → be_number b 32 ≡ s → sections_in b ≡ n → Stands 0 (header s n) b → front_check b ≡ None
 unfolding front_check
 front_passes b s n long small near few shoff sections st =
     let h : List ℕ = header s n in
@@ -161,7 +161,7 @@ small_drop zero ws s = s
 small_drop (suc n) [] s = tt
 small_drop (suc n) (w ∷ ws) s = small_drop n ws s.1
 
-heads_pass : (b : List ℕ) (p : Places) (name : List ℕ) (names : List (List ℕ)) (file : List ℕ) → IsObject b p name names file → heads_check b p ≡ None
+pub heads_pass : (b : List ℕ) (p : Places) (name : List ℕ) (names : List (List ℕ)) (file : List ℕ) → IsObject b p name names file → heads_check b p ≡ None
 unfolding heads_check sections_check relocs_rows_check tables_check
 heads_pass b p name names file w =
     let h : ℕ = p.headers in

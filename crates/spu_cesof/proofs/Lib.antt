@@ -6,3 +6,4 @@ pub mod NamesBack
 pub mod Back
 pub mod BackWhole
 pub mod Forth
+pub mod ForthWhole

@@ -21,7 +21,7 @@ front_text p = elf_header 20 1 0 0 p.headers 0 0 (section_count p.entries)
 abbrev pub whole : Places → List ℕ → List (List ℕ) → List ℕ → List ℕ
 whole p name names file = (front_text p ++ (replicate 76 0 ++ (body_text p name names file ++ replicate (padding 4 p.end) 0))) ++ (replicate 40 0 ++ rows_text p)
 
-count_is : (name : List ℕ) (names : List (List ℕ)) (file : List ℕ) → 1 + 3 + length (groups 0 (object_sections (length names) file) (toe_relocs 0 names ++ handle_relocs)) + 3 ≡ section_count (length names)
+pub count_is : (name : List ℕ) (names : List (List ℕ)) (file : List ℕ) → 1 + 3 + length (groups 0 (object_sections (length names) file) (toe_relocs 0 names ++ handle_relocs)) + 3 ≡ section_count (length names)
 count_is name names file = ap (λ (gs : List Group). 1 + 3 + length gs + 3) (groups_are (length names) file names) ∙ cases names
   where
     cases : (names : List (List ℕ)) → 1 + 3 + length (group_list names) + 3 ≡ section_count (length names)
