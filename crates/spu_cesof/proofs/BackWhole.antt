@@ -221,8 +221,8 @@ object_whole b p e l o h t =
     let end = o.end in
     stands_all (whole p name names file) b text (omega (arith, size, end, five)) ∙ sym (spelled p name names file f)
 
-pub embedded_back : (b : List ℕ) → IsBytes b → length b ≤ 4194304 → cesof_fault b ≡ None → IsEmbedded (image_in b) b
-embedded_back b fits small e =
+pub embedded_back : (b : List ℕ) → IsBytes b → cesof_fault b ≡ None → IsEmbedded (image_in b) b
+embedded_back b fits e =
     let p : Places = places_in b in
     let file : List ℕ = image_of b p in
     let c : Passes b p = passes b p e in
@@ -241,6 +241,6 @@ embedded_back b fits small e =
         valid = back.0;
         file_is = back.1;
         spelled = all ∙ ap (λ (z : List (List ℕ)). embedding (name_in b p) z file) t.names;
-        small = small;
+        small = o.front.small;
       };
     }

@@ -27,6 +27,7 @@ use Rattle.spu_elf.proofs.ExecutableSpelling.{place_of, entry_text, entries_text
 use Rattle.spu_cesof.specs.Embedding.{is_entry, is_object, entry_names, handle_bytes, handle_relocs, toe_relocs, section_symbol, handle_symbol, entry_symbol, named_symbols, object_symbols, embedding}
 use Rattle.spu_cesof.specs.Outline.{section_count, symbols_number, sections_in, places_with, places_in, image_of, section_names, names_size, symbols_row}
 use Rattle.spu_cesof.specs.Unpacking.{names_in, strings_in, name_in, entry_names_in, joined, front_check, heads_check, padding_check, symbol_check, named_check, named_checks, section_symbols_check, symbols_check, names_check, strings_check, end_check, object_check, handle_check, toe_check, found, ◌or_else◌, fault_with, cesof_fault, image_in}
+use Rattle.spu_cesof.specs.Answers.{Unpacks}
 use Rattle.spu_cesof.specs.declared.faults.CesofFault.{CesofFault}
 use Rattle.spu_cesof.specs.declared.faults.CesofFault.TheVariants as faults
 use Rattle.spu_cesof.specs.declared.places.Places.{Places}
@@ -298,11 +299,6 @@ found_nothing fault by f e = ap (found fault by) e
 none_both : (f g : Option CesofFault) → f ≡ None → g ≡ None → f or_else g ≡ None
 none_both f g e h = ap (λ (r : Option CesofFault). r or_else g) e ∙ h
 
--- the embedding has no fault, and the executable's file is taken out of it
-pub record Unpacks (e file : List ℕ) : Type 0 where
-  pub passes : cesof_fault e ≡ None
-  pub image : image_in e ≡ file
-
 fault_passes : (b : List ℕ) (p : Places) (name : List ℕ) (names : List (List ℕ)) (file : List ℕ) → IsObject b p name names file → Read b p → NamesRead b p name names → image_of b p ≡ file → exec_fault file ≡ None → entry_names (exec_in file).symbols ≡ names → fault_with b p ≡ None
 unfolding fault_with
 fault_passes b p name names file w q r image fault entries =
@@ -336,7 +332,7 @@ joined_short (x ∷ xs) each =
     let own = All-head IsName x xs each in
     omega (arith, own.short, length-append x (0 ∷ joined xs), joined_short xs (All-tail IsName x xs each))
 
-names_few : (ss : List Symbol) → length (entry_names ss) ≤ length ss
+pub names_few : (ss : List Symbol) → length (entry_names ss) ≤ length ss
 names_few [] = omega arith
 names_few (s ∷ ss) = by_test (is_entry s) (names_few ss)
   where

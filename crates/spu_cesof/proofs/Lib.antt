@@ -7,3 +7,6 @@ pub mod Back
 pub mod BackWhole
 pub mod Forth
 pub mod ForthWhole
+pub mod Taken
+pub mod Written
+pub mod Given

@@ -4,6 +4,7 @@ use Rattle.spu_word.specs.declared.limits.TheConstants.{MAX_FILE_SIZE}
 use Rattle.spu_cesof.specs.declared.faults.CesofFault.{CesofFault}
 use Rattle.spu_cesof.specs.declared.faults.CesofFault.TheVariants as faults
 use Rattle.spu_cesof.specs.Embedding.{Embeds}
+use Rattle.spu_cesof.specs.Unpacking.{cesof_fault, image_in}
 
 -- what a function answered is the first fault, unless memory ran out
 abbrev pub Says : {X : Type 0} → Result X CesofFault → Option CesofFault → Type 0
@@ -27,3 +28,8 @@ IsRefusedBySize (Err (faults.TooLarge n)) size = (MAX_FILE_SIZE < size) × (n �
 pub record IsEmbedded (file e : List ℕ) : Type 0 where
   pub name : List ℕ
   pub embeds : Embeds name file e
+
+-- the object has no fault, and that file is taken out of it
+pub record Unpacks (e file : List ℕ) : Type 0 where
+  pub passes : cesof_fault e ≡ None
+  pub image : image_in e ≡ file

@@ -245,3 +245,18 @@ fn image_in(alloc: Global, bytes: &[u8]) -> Result<Bytes, CesofFault>
     toe_in(alloc, bytes, p, &parts.names, names.as_slice())?;
     Ok(Seq::copied(alloc, file)?)
 }
+
+/// The file of the executable that an object embeds, or what is wrong first. Fields are judged in
+/// this order: the header of the file, without the place of the section headers; those headers, at
+/// that place, without the info of the symbol table; the place; padding; symbols; that info; the
+/// names of symbols and of sections; the end of the file; the executable, as `spu_elf::read_exec`
+/// judges it; the handle and its relocations; and the table of effective addresses: its bytes, its
+/// relocations, its names as far as the executable has entries, and last their number.
+
+pub fn unpack(alloc: Global, bytes: &[u8]) -> Result<Bytes, CesofFault>
+    ensures value { IfOk result (λ file. file ≡ image_in bytes.now) }
+    ensures fault { Says result (cesof_fault bytes.now) }
+    ensures embeds { IfOk result (λ file. IsEmbedded file bytes.now) }
+{
+    image_in(alloc, bytes)
+}
