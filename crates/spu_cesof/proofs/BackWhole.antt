@@ -211,9 +211,43 @@ object_whole b p e l o h t =
     let image : Stands 128 file b = stands_part 128 p.image_size b near in
     let strings : Stands p.strings (strings_of name names) b = subst (λ (z : List ℕ). Stands p.strings z b) (sym o.strings.is) o.strings.strings in
     let symbols : Stands (p.headers + 40 * n) (row (symbols_row p)) b = symbols_row_stands b p (p.headers + 40 * n) o.rows.symbols o.symbols.info o.rows.symbols_rest in
-    let all : AllStand b (pieces p name names file) =
-    (front, (o.lead, (image, (o.gap, (t.zeros, (h.handle, (t.relocs, (h.relocs, (o.symbols.entries, (strings, (o.strings.names, (o.tail,
-    (o.rows.null, (o.rows.image, (o.rows.toe, (o.rows.handle, (o.rows.toe_relocs, (o.rows.handle_relocs, (symbols, (o.rows.strings, (o.rows.names, tt))))))))))))))))))))) in
+    let all : AllStand b (pieces p name names file) = (
+      front,
+      (
+        o.lead,
+        (
+          image,
+          (
+            o.gap,
+            (
+              t.zeros,
+              (
+                h.handle,
+                (
+                  t.relocs,
+                  (
+                    h.relocs,
+                    (
+                      o.symbols.entries,
+                      (
+                        strings,
+                        (
+                          o.strings.names,
+                          (
+                            o.tail,
+                            (o.rows.null, (o.rows.image, (o.rows.toe, (o.rows.handle, (o.rows.toe_relocs, (o.rows.handle_relocs, (symbols, (o.rows.strings, (o.rows.names, tt))))))))),
+                          ),
+                        ),
+                      ),
+                    ),
+                  ),
+                ),
+              ),
+            ),
+          ),
+        ),
+      ),
+    ) in
     let places : Follow 0 (pieces p name names file) = follow p name names file f in
     let text : Stands 0 (whole p name names file) b = subst (λ (z : List ℕ). Stands 0 z b) (together_is p name names file) (all_together b 0 (pieces p name names file) (omega arith) places all) in
     let size : length (whole p name names file) ≡ p.headers + 40 * (n + 2) + 40 = ap length (sym (together_is p name names file)) ∙ omega (arith, length_together 0 (pieces p name names file) places) in

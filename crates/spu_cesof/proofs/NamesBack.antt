@@ -186,9 +186,10 @@ names_back end at (x ∷ xs) e =
 
 pub cut_name : (x rest : List ℕ) → Printed x → (take (name_len (x ++ 0 ∷ rest)) (x ++ 0 ∷ rest) ≡ x) × (after_name (x ++ 0 ∷ rest) ≡ rest)
 cut_name x rest printed =
-    let len : name_len (x ++ 0 ∷ rest) ≡ length x = name_ends x rest printed in
-    (ap (λ (n : ℕ). take n (x ++ 0 ∷ rest)) len ∙ take_at x (0 ∷ rest) (length x) refl,
-    ap (λ (n : ℕ). drop (n + 1) (x ++ 0 ∷ rest)) len ∙ ap (drop (length x + 1)) (sym (append_assoc x (0 ∷ []) rest)) ∙ drop_at (x ++ 0 ∷ []) rest (length x + 1) (length-append x (0 ∷ [])))
+    let len : name_len (x ++ 0 ∷ rest) ≡ length x = name_ends x rest printed in (
+      ap (λ (n : ℕ). take n (x ++ 0 ∷ rest)) len ∙ take_at x (0 ∷ rest) (length x) refl,
+      ap (λ (n : ℕ). drop (n + 1) (x ++ 0 ∷ rest)) len ∙ ap (drop (length x + 1)) (sym (append_assoc x (0 ∷ []) rest)) ∙ drop_at (x ++ 0 ∷ []) rest (length x + 1) (length-append x (0 ∷ [])),
+    )
   where
     name_ends : (name rest : List ℕ) → Printed name → name_len (name ++ 0 ∷ rest) ≡ length name
     name_ends [] rest printed = refl

@@ -41,9 +41,35 @@ length_body p name names file f =
     let t5 : List ℕ = trel ++ t6 in
     let t4 : List ℕ = handle_bytes ++ t5 in
     let t3 : List ℕ = toe ++ t4 in
-    omega (arith, length-append file (gap ++ t3), length-append gap t3, length-append toe t4, length-append handle_bytes t5, length-append trel t6, length-append hrel t7, length-append (entries_of name names) t8, length-append (strings_of name names) (section_names p.entries),
-    length-replicate {A = ℕ} (padding 16 (128 + p.image_size)) 0, length-replicate {A = ℕ} (16 * p.entries) 0, length_toe 0 names, length_relocations handle_relocs, length_entries (object_symbols name names), length-map names entry_symbol, length_names p.entries,
-    f.image_size, f.entries, f.strings_size, l.toe, l.handle, l.toe_relocs, l.handle_relocs, l.symbols, l.strings, l.names, l.end)
+    omega (
+      arith,
+      length-append file (gap ++ t3),
+      length-append gap t3,
+      length-append toe t4,
+      length-append handle_bytes t5,
+      length-append trel t6,
+      length-append hrel t7,
+      length-append (entries_of name names) t8,
+      length-append (strings_of name names) (section_names p.entries),
+      length-replicate {A = ℕ} (padding 16 (128 + p.image_size)) 0,
+      length-replicate {A = ℕ} (16 * p.entries) 0,
+      length_toe 0 names,
+      length_relocations handle_relocs,
+      length_entries (object_symbols name names),
+      length-map names entry_symbol,
+      length_names p.entries,
+      f.image_size,
+      f.entries,
+      f.strings_size,
+      l.toe,
+      l.handle,
+      l.toe_relocs,
+      l.handle_relocs,
+      l.symbols,
+      l.strings,
+      l.names,
+      l.end,
+    )
 
 pub spelled : (p : Places) (name : List ℕ) (names : List (List ℕ)) (file : List ℕ) → Fits p name names file → embedding name names file ≡ whole p name names file
 unfolding embedding
@@ -146,18 +172,58 @@ pub follow : (p : Places) (name : List ℕ) (names : List (List ℕ)) (file : Li
 follow p name names file f =
     let l : Laid p = f.laid in
     let k : ℕ = symbols_number p.entries in
-    let five : 5 ≤ k = some_by (p.entries == 0) in
-    (refl, (refl, (refl,
-    (omega (arith, f.image_size),
-    (omega (arith, length-replicate {A = ℕ} (padding 16 (128 + p.image_size)) 0, l.toe),
-    (omega (arith, length-replicate {A = ℕ} (16 * p.entries) 0, l.handle),
-    (omega (arith, l.toe_relocs),
-    (omega (arith, length_toe 0 names, f.entries, l.handle_relocs),
-    (omega (arith, l.symbols),
-    (omega (arith, length_entries (object_symbols name names), length-map names entry_symbol, f.entries, l.strings),
-    (omega (arith, f.strings_size, l.names),
-    (omega (arith, length_names p.entries, l.end),
-    (omega (arith, length-replicate {A = ℕ} (padding 4 p.end) 0, f.headers),
-    (omega arith, (omega arith, (omega arith, (omega arith,
-    (relocs_by p (p.entries == 0),
-    (omega (arith, five), (omega arith, (omega arith, tt)))))))))))))))))))))
+    let five : 5 ≤ k = some_by (p.entries == 0) in (
+      refl,
+      (
+        refl,
+        (
+          refl,
+          (
+            omega (arith, f.image_size),
+            (
+              omega (arith, length-replicate {A = ℕ} (padding 16 (128 + p.image_size)) 0, l.toe),
+              (
+                omega (arith, length-replicate {A = ℕ} (16 * p.entries) 0, l.handle),
+                (
+                  omega (arith, l.toe_relocs),
+                  (
+                    omega (arith, length_toe 0 names, f.entries, l.handle_relocs),
+                    (
+                      omega (arith, l.symbols),
+                      (
+                        omega (arith, length_entries (object_symbols name names), length-map names entry_symbol, f.entries, l.strings),
+                        (
+                          omega (arith, f.strings_size, l.names),
+                          (
+                            omega (arith, length_names p.entries, l.end),
+                            (
+                              omega (arith, length-replicate {A = ℕ} (padding 4 p.end) 0, f.headers),
+                              (
+                                omega arith,
+                                (
+                                  omega arith,
+                                  (
+                                    omega arith,
+                                    (
+                                      omega arith,
+                                      (
+                                        relocs_by p (p.entries == 0),
+                                        (omega (arith, five), (omega arith, (omega arith, tt))),
+                                      ),
+                                    ),
+                                  ),
+                                ),
+                              ),
+                            ),
+                          ),
+                        ),
+                      ),
+                    ),
+                  ),
+                ),
+              ),
+            ),
+          ),
+        ),
+      ),
+    )

@@ -30,7 +30,12 @@ pub fn check_front(bytes: &[u8]) -> Result<(), ElfFault>
     let headers = word_at(bytes, E_SHOFF) as usize;
     let kind = ElfKind::BadTable;
     check_words(bytes, kind, E_VERSION, &front_words(0, 0, headers))?;
-    check_halves(bytes, kind, E_EHSIZE, &front_halves(0, 0, sections_in(bytes)))
+    check_halves(
+        bytes,
+        kind,
+        E_EHSIZE,
+        &front_halves(0, 0, sections_in(bytes)),
+    )
 }
 
 /// Section header k has these words.

@@ -20,12 +20,7 @@ use std::alloc::Global;
 
 /// The object of a handle, entries and a file, unless it is too large.
 #[tactic(auto, using(crate::proofs::Written::few_sections, crate::proofs::Written::few_symbols, crate::proofs::Written::few_headers), unfolding(crate::specs::Embedding::embedding))]
-fn spelled(
-    alloc: Global,
-    name: &[u8],
-    names: &[Name],
-    file: &[u8],
-) -> Result<Bytes, CesofFault>
+fn spelled(alloc: Global, name: &[u8], names: &[Name], file: &[u8]) -> Result<Bytes, CesofFault>
     requires few { length names.now ≤ MAX_SYMBOLS }
     requires file { length file.now ≤ MAX_FILE_SIZE }
     requires short { length (embedding name.now names.now file.now) < 2 ^ 40 }
@@ -42,12 +37,7 @@ fn spelled(
 
 /// The object of an executable under a name, unless it is too large.
 #[tactic(auto, using(crate::proofs::Written::few_names, crate::proofs::ForthWhole::embedding_short))]
-fn embedded(
-    alloc: Global,
-    name: &[u8],
-    x: &Exec,
-    file: &[u8],
-) -> Result<Bytes, CesofFault>
+fn embedded(alloc: Global, name: &[u8], x: &Exec, file: &[u8]) -> Result<Bytes, CesofFault>
     requires name { IsName name.now }
     requires valid { IsValidExec x.now }
     requires file { file.now ≡ spell_exec x.now }

@@ -14,9 +14,7 @@ use crate::constants::FIRST_ENTRY;
 use crate::object::{add_named, section_symbol};
 use crate::places::{Places, symbols_number};
 use spu_elf::constants::{SH_INFO, SHDR_SIZE, ST_INFO, ST_SHNDX, SYM_SIZE};
-use spu_elf::reading::executable_symbols::{
-    after_name, check_name, check_null, first_name,
-};
+use spu_elf::reading::executable_symbols::{after_name, check_name, check_null, first_name};
 use spu_elf::reading::fields::{
     check_byte, check_bytes, check_half, check_word, check_words, fault, part,
 };
@@ -86,7 +84,12 @@ fn check_symbol(bytes: &[u8], place: usize, name: usize, s: &Symbol) -> Result<(
     ensures { Names result (symbol_check bytes.now place name s.now) }
 {
     let kind = ElfKind::BadSymbol;
-    check_words(bytes, kind, place, &[name, s.value as usize, s.size as usize])?;
+    check_words(
+        bytes,
+        kind,
+        place,
+        &[name, s.value as usize, s.size as usize],
+    )?;
     let info = symbol_info(s.global, s.kind);
     check_bytes(bytes, kind, place + ST_INFO, &[info, 0])?;
     check_half(bytes, kind, place + ST_SHNDX, place_number(s.place))
@@ -150,8 +153,18 @@ fn check_section_symbols(alloc: Global, bytes: &[u8], p: &Places) -> Result<(), 
 {
     check_null(bytes, p.symbols)?;
     check_symbol(bytes, p.symbols + SYM_SIZE, 0, &section_symbol(alloc, 0))?;
-    check_symbol(bytes, p.symbols + 2 * SYM_SIZE, 0, &section_symbol(alloc, 1))?;
-    check_symbol(bytes, p.symbols + 3 * SYM_SIZE, 0, &section_symbol(alloc, 2))
+    check_symbol(
+        bytes,
+        p.symbols + 2 * SYM_SIZE,
+        0,
+        &section_symbol(alloc, 1),
+    )?;
+    check_symbol(
+        bytes,
+        p.symbols + 3 * SYM_SIZE,
+        0,
+        &section_symbol(alloc, 2),
+    )
 }
 
 /// The symbol table, and the info in its header.

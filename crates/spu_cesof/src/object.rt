@@ -80,11 +80,7 @@ pub fn handle_bytes() -> [u8; HANDLE_SIZE]
 }
 
 /// The sections of the object of a file with so many entries.
-fn object_sections(
-    alloc: Global,
-    entries: usize,
-    file: &[u8],
-) -> Result<Seq<Section>, OutOfMemory>
+fn object_sections(alloc: Global, entries: usize, file: &[u8]) -> Result<Seq<Section>, OutOfMemory>
     requires few { entries ≤ MAX_SYMBOLS }
     requires file { length file.now ≤ MAX_FILE_SIZE }
     ensures { IfOk result (λ ss. ss ≡ object_sections entries file.now) }
@@ -193,11 +189,7 @@ pub fn toe_relocs(alloc: Global, names: &[Name]) -> Result<Seq<Reloc>, OutOfMemo
 {
     let mut all = Seq::new(alloc);
     for (k, _name) in names.iter().enumerate() {
-        all.push(address_reloc(
-            1,
-            TOE_ENTRY_SIZE * k + TOE_ADDRESS,
-            FIRST_ENTRY + k,
-        ))?;
+        all.push(address_reloc(1, TOE_ENTRY_SIZE * k + TOE_ADDRESS, FIRST_ENTRY + k))?;
     }
     Ok(all)
 }

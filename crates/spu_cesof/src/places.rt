@@ -12,9 +12,7 @@ use crate::constants::{
     TOE_NAME, TOE_RELOCS_NAME_SIZE,
 };
 use spu_elf::SecKind;
-use spu_elf::constants::{
-    E_SHNUM, E_SHOFF, RELA_SIZE, SECTION_STEP, SH_SIZE, SHDR_SIZE, SYM_SIZE,
-};
+use spu_elf::constants::{E_SHNUM, E_SHOFF, RELA_SIZE, SECTION_STEP, SH_SIZE, SHDR_SIZE, SYM_SIZE};
 use spu_elf::reading::fields::word_at;
 use spu_elf::rows::{Head, gap};
 use spu_word::be16;
@@ -243,16 +241,20 @@ impl Places {
         requires { IsFar self.now }
         ensures { result ≡ section_words RELOCS_NAME self.now.toe_relocs (relocations_head (symbols_number self.now.entries) 2 (RELA_SIZE * self.now.entries)) }
     {
-        Head::relocations(symbols_number(self.entries), 2, RELA_SIZE * self.entries)
-            .words(RELOCS_NAME, self.toe_relocs)
+        Head::relocations(symbols_number(self.entries), 2, RELA_SIZE * self.entries).words(
+            RELOCS_NAME,
+            self.toe_relocs,
+        )
     }
 
     /// The header of the handle's relocations.
     pub fn handle_relocs_row(&self) -> [usize; 10]
         ensures { result ≡ handle_relocs_row self.now }
     {
-        Head::relocations(symbols_number(self.entries), 3, 2 * RELA_SIZE)
-            .words(later_names(self.entries), self.handle_relocs)
+        Head::relocations(symbols_number(self.entries), 3, 2 * RELA_SIZE).words(
+            later_names(self.entries),
+            self.handle_relocs,
+        )
     }
 
     /// The header of the symbol table.
@@ -261,23 +263,29 @@ impl Places {
         ensures { result ≡ symbols_row self.now }
     {
         let size = SYM_SIZE * (1 + FIRST_ENTRY + self.entries);
-        Head::symbols(symbols_number(self.entries) + 1, size, FIRST_ENTRY)
-            .words(table_names(self.entries), self.symbols)
+        Head::symbols(symbols_number(self.entries) + 1, size, FIRST_ENTRY).words(
+            table_names(self.entries),
+            self.symbols,
+        )
     }
 
     /// The header of the names of symbols.
     pub fn strings_row(&self) -> [usize; 10]
         ensures { result ≡ strings_row self.now }
     {
-        Head::strings(self.strings_size)
-            .words(table_names(self.entries) + TABLE_NAME_SIZE, self.strings)
+        Head::strings(self.strings_size).words(
+            table_names(self.entries) + TABLE_NAME_SIZE,
+            self.strings,
+        )
     }
 
     /// The header of the names of sections.
     pub fn names_row(&self) -> [usize; 10]
         ensures { result ≡ names_row self.now }
     {
-        Head::strings(names_size(self.entries))
-            .words(table_names(self.entries) + 2 * TABLE_NAME_SIZE, self.names)
+        Head::strings(names_size(self.entries)).words(
+            table_names(self.entries) + 2 * TABLE_NAME_SIZE,
+            self.names,
+        )
     }
 }
