@@ -122,8 +122,8 @@ fn bytes_of(alloc: Global, text: &str) -> Result<Bytes, OutOfMemory> {
     Ok(bytes)
 }
 
-/// An executable's file, embedded as `h` and unpacked again.
-fn there_and_back(alloc: Global, x: &Exec, file: &[u8]) -> Option<[Bytes; 2]> {
+/// An executable, whose file this is to be, embedded as `h`.
+fn embedded(alloc: Global, x: &Exec, file: &[u8]) -> Option<Bytes> {
     if !is_name(b"h") || !x.valid() {
         return None;
     }
@@ -131,9 +131,7 @@ fn there_and_back(alloc: Global, x: &Exec, file: &[u8]) -> Option<[Bytes; 2]> {
     if copy.as_slice() != file {
         return None;
     }
-    let object = embed(alloc, b"h", x, copy.as_slice()).ok()?;
-    let back = unpack(alloc, object.as_slice()).ok()?;
-    Some([object, back])
+    embed(alloc, b"h", x, copy.as_slice()).ok()
 }
 
 #[test]
@@ -144,8 +142,8 @@ fn embeds_and_unpacks(rt: HostRuntime) -> Result<(), Fail> {
     let whole = expected.as_slice();
     assert!(rt; whole.len() == 1468);
     let file = &whole[128..784];
-    let made = there_and_back(alloc, &x, file).ok_or("no executable")?;
-    let [object, back] = made;
+    let object = embedded(alloc, &x, file).ok_or("no executable")?;
+    let back = unpack(alloc, object.as_slice()).ok().ok_or("a fault")?;
     assert!(rt; object.as_slice() == whole);
     assert!(rt; back.as_slice() == file);
     Ok(())
