@@ -1,5 +1,6 @@
 -- Which bytes of its sources a test, a halt and an address read, by SPU ISA 1.2, chapters 3 and 7.
 use Rattle.std.specs.Prelude.{ℕ, nat_lt, nat_le, ◌&&◌, Bool, false}
+use Rattle.spu_word.specs.declared.limits.TheConstants.{WORD_SIZE}
 use Rattle.spu_isa.specs.declared.operation.Op.{Op}
 use Rattle.spu_isa.specs.declared.operation.Op.TheVariants as op
 use Rattle.spu_exec.specs.declared.sources.Source.{Source}
@@ -7,10 +8,10 @@ use Rattle.spu_exec.specs.declared.sources.Source.TheVariants.{FromRa, FromRb, F
 
 -- the bytes of word 0, and of the lower half of it
 abbrev pub in_word : ℕ → Bool
-in_word j = nat_lt j 4
+in_word j = nat_lt j WORD_SIZE
 
 abbrev pub in_halfword : ℕ → Bool
-in_halfword j = nat_le 2 j && nat_lt j 4
+in_halfword j = nat_le 2 j && nat_lt j WORD_SIZE
 
 -- whether byte j of a source is in a word or halfword that a branch or a halt tests
 abbrev pub tested : Op → Source → ℕ → Bool

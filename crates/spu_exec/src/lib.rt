@@ -1,4 +1,4 @@
-//! What the instructions of the SPU compute, by SPU ISA 1.2, without floating point.
+//! What the instructions of the table compute, by SPU ISA 1.2: results, tests, addresses, channels and transfers.
 #![tactic(auto)]
 
 mod applying;

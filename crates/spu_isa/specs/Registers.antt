@@ -1,16 +1,19 @@
--- Which register fields a layout has.
-use Rattle.std.specs.Prelude.{Bool, true, false, List, []}
+-- Which source registers an instruction names, by its layout and the fields that must be zero: those are listed in the order rb, ra, rt.
+-- SPU ISA 1.2, section 2.3.
+use Rattle.std.specs.Prelude.{Bool, true, false, List, [], ◌∷◌}
 use Rattle.spu_isa.specs.declared.operation.Layout.{Layout}
-use Rattle.spu_isa.specs.declared.operation.Layout.TheVariants.{Rr, Rrr, Ri7, Ri10}
+use Rattle.spu_isa.specs.declared.operation.Layout.TheVariants.{Rr, Rrr, Ri7, Ri10, HintA}
 use Rattle.spu_isa.specs.declared.operation.Register.{Register}
+use Rattle.spu_isa.specs.declared.operation.Register.TheVariants.{Ra, Rb}
 
--- whether a layout has the field ra, and the field rb that need not be zero
-abbrev pub has_ra : Layout → Bool
-has_ra Rr = true
-has_ra Rrr = true
-has_ra Ri7 = true
-has_ra Ri10 = true
-has_ra _ = false
+abbrev pub has_ra : Layout → List Register → Bool
+has_ra Rr (Rb ∷ Ra ∷ _) = false
+has_ra Rr _ = true
+has_ra Rrr _ = true
+has_ra Ri7 _ = true
+has_ra Ri10 _ = true
+has_ra HintA _ = true
+has_ra _ _ = false
 
 abbrev pub has_rb : Layout → List Register → Bool
 has_rb Rr [] = true

@@ -1,4 +1,5 @@
-//! The instruction table of the SPU: which word is which instruction, by SPU ISA 1.2, without floating point.
+//! The instruction table of the SPU: which word is which instruction, by SPU ISA 1.2. Left out are floating point, `mfspr`,
+//! `mtspr`, `iret`, `bisled`, `stopd`, `hbrp`, `rotqmbybi`, `syncc` and the branches that enable or disable interrupts.
 #![tactic(auto)]
 
 mod decoding;
