@@ -1,30 +1,30 @@
 -- An object with no fault is the embedding of what it is read as.
-use Rattle.std.proofs.Common.{◌≡◌, ℕ, zero, suc, ◌+◌, ◌-◌, ◌*◌, ◌/◌, ◌%◌, ◌<◌, ◌≤◌, Bool, true, false, not, List, [], ◌∷◌, ◌++◌, length, take, drop, map, replicate, get_or, slice_index, Option, Some, None, nat_lt, nat_le, if◌then◌else◌, ◌==◌, refl, sym, ap, subst, ◌∙◌, append_assoc, append-nil, ne_eqb, arith}
+use Rattle.std.proofs.Common.{◌≡◌, ℕ, zero, suc, ◌+◌, ◌-◌, ◌*◌, ◌/◌, ◌<◌, ◌≤◌, Bool, true, false, not, List, [], ◌∷◌, ◌++◌, length, take, drop, map, replicate, slice_index, Option, None, nat_lt, if◌then◌else◌, ◌==◌, refl, sym, ap, subst, ◌∙◌, append-nil, ne_eqb, arith}
 use Rattle.std.specs.List.{flat_map, All}
 use Rattle.std.proofs.lemmas.Bool.{ltb-false, eqb-true}
-use Rattle.std.proofs.lemmas.List.{length-append, length-take, length-drop, length-map, length-replicate}
-use Rattle.std.proofs.lemmas.List.Elements.{All-nil, All-cons, All-head, All-tail}
+use Rattle.std.proofs.lemmas.List.{length-append, length-take, length-drop, length-map}
+use Rattle.std.proofs.lemmas.List.Elements.{All-cons, All-head, All-tail}
 use Rattle.spu_word.specs.Bytes.{be_digits, be_half_digits, be_number, be_half_number}
-use Rattle.spu_word.proofs.Stands.{Stands, stands_at, stands_slice, stands_whole}
+use Rattle.spu_word.proofs.Stands.{Stands, stands_at}
 use Rattle.spu_elf.specs.Checks.{fails, ◌then_check◌, byte_check, word_check, bytes_check, halves_check, words_check, zeros_check}
 use Rattle.spu_elf.specs.Reading.{ident_checks}
-use Rattle.spu_elf.specs.Rows.{padding, elf_header, section_words, relocations_head, symbols_head}
-use Rattle.spu_elf.specs.Spelling.{Symbols, symbol_table, relocation}
-use Rattle.spu_elf.specs.Executables.{name_len, after_name, null_check}
+use Rattle.spu_elf.specs.Rows.{padding, elf_header, section_words, relocations_head}
+use Rattle.spu_elf.specs.Spelling.{Symbols}
+use Rattle.spu_elf.specs.Executables.{after_name, null_check}
 use Rattle.spu_elf.specs.declared.faults.ElfKind.{ElfKind}
 use Rattle.spu_elf.specs.declared.faults.ElfKind.TheVariants as kinds
 use Rattle.spu_elf.specs.declared.faults.ElfFault.{ElfFault}
 use Rattle.spu_elf.specs.declared.objects.Symbol.{Symbol}
-use Rattle.spu_elf.proofs.ExecutableFields.{IsBytes, both_pass, not_failing, was_true, word_is, half_is, byte_is, word_stands, words_stand, halves_stand, bytes_stand, byte_same, stands_part, stands_join, stands_reaches, stands_left, stands_all}
+use Rattle.spu_elf.proofs.ExecutableFields.{IsBytes, both_pass, not_failing, was_true, word_is, half_is, byte_is, word_stands, words_stand, halves_stand, bytes_stand, byte_same, stands_part, stands_join, stands_reaches, stands_left}
 use Rattle.spu_elf.proofs.ExecutableSpelling.{entry_text, entries_text, symbol_names, table_is}
-use Rattle.spu_cesof.specs.Embedding.{handle_bytes, handle_relocs, toe_relocs, section_symbol, handle_symbol, entry_symbol, named_symbols, object_symbols}
-use Rattle.spu_cesof.specs.Outline.{section_count, symbols_number, sections_in, entries_in, at_least_one, places_with, places_in, image_of, section_names, image_row, toe_row, handle_row, toe_relocs_row, handle_relocs_row, symbols_row, strings_row, names_row, names_size}
-use Rattle.spu_cesof.specs.Unpacking.{names_in, strings_in, name_in, entry_names_in, joined, front_check, row_check, sections_check, relocs_rows_check, tables_check, heads_check, padding_check, symbol_check, named_checks, section_symbols_check, symbols_check, names_check, strings_check, end_check, object_check, handle_check, toe_check}
+use Rattle.spu_cesof.specs.Embedding.{section_symbol, handle_symbol, entry_symbol, named_symbols, object_symbols}
+use Rattle.spu_cesof.specs.Outline.{section_count, symbols_number, sections_in, at_least_one, places_in, section_names, image_row, toe_row, handle_row, toe_relocs_row, handle_relocs_row, symbols_row, strings_row, names_row}
+use Rattle.spu_cesof.specs.Unpacking.{strings_in, name_in, entry_names_in, joined, front_check, row_check, sections_check, relocs_rows_check, tables_check, heads_check, symbol_check, named_checks, section_symbols_check, symbols_check, names_check, strings_check}
 use Rattle.spu_cesof.specs.declared.places.Places.{Places}
-use Rattle.spu_cesof.proofs.Spelled.{Laid, Fits, strings_of, entries_of, row, some}
-use Rattle.spu_elf.specs.Validity.{IsName, IsValidExec}
+use Rattle.spu_cesof.proofs.Spelled.{Laid, strings_of, entries_of, row}
+use Rattle.spu_elf.specs.Validity.{IsName}
 use Rattle.spu_elf.proofs.SpelledSymbols.{byte_stands}
-use Rattle.spu_cesof.proofs.NamesBack.{Printed, null_stands, symbol_stands, Named, left_of, NamedBack, named_back, entries_named, length_names_in, names_joined, NamesBack, names_back}
+use Rattle.spu_cesof.proofs.NamesBack.{Printed, null_stands, symbol_stands, left_of, NamedBack, named_back, entries_named, length_names_in, names_joined, NamesBack, names_back}
 
 -- ---- the header of the file
 

@@ -1,17 +1,16 @@
 -- An object with no fault embeds the executable that it is read as.
-use Rattle.std.proofs.Common.{◌≡◌, ℕ, suc, ◌+◌, ◌-◌, ◌*◌, ◌%◌, ◌<◌, ◌≤◌, Bool, true, false, not, List, [], ◌∷◌, ◌++◌, length, take, drop, map, replicate, get_or, Option, Some, None, Result, Ok, Err, nat_lt, if◌then◌else◌, ◌==◌, refl, sym, ap, subst, ◌∙◌, append_assoc, append-nil, ◌⊎◌, inl, inr, arith}
-use Rattle.std.specs.Result.{IfOk}
+use Rattle.std.proofs.Common.{◌≡◌, ℕ, ◌+◌, ◌*◌, ◌<◌, ◌≤◌, Bool, true, false, not, List, [], ◌∷◌, ◌++◌, length, take, drop, replicate, get_or, Option, Some, None, nat_lt, if◌then◌else◌, ◌==◌, refl, sym, ap, subst, ◌∙◌, ◌⊎◌, inl, inr, arith}
 use Rattle.std.specs.List.{flat_map, All}
 use Rattle.std.proofs.lemmas.Bool.{ltb-false, eqb-true, cases_lt}
-use Rattle.std.proofs.lemmas.List.{length-append, length-take, length-drop, length-replicate, take_all, get_or-take, get_or-drop, get_or_past, drop_at}
+use Rattle.std.proofs.lemmas.List.{length-append, length-take, length-drop, take_all, get_or-take, get_or-drop, get_or_past, drop_at}
 use Rattle.std.proofs.lemmas.List.Elements.{All-nil, All-cons, All-head, All-tail, All-drop}
-use Rattle.spu_word.specs.Bytes.{be_digits, be_number}
-use Rattle.spu_word.proofs.Stands.{Stands, stands_at, stands_whole}
+use Rattle.spu_word.specs.Bytes.{be_number}
+use Rattle.spu_word.proofs.Stands.{Stands}
 use Rattle.spu_elf.specs.Checks.{fails, ◌then_check◌, bytes_check, zeros_check}
 use Rattle.spu_elf.specs.Rows.{padding, elf_header}
-use Rattle.spu_elf.specs.Spelling.{relocation, spell_exec}
-use Rattle.spu_elf.specs.Validity.{IsName, IsExecSymbol, IsValidExec}
-use Rattle.spu_elf.specs.Executables.{after_name, exec_fault, exec_in}
+use Rattle.spu_elf.specs.Spelling.{relocation}
+use Rattle.spu_elf.specs.Validity.{IsExecSymbol}
+use Rattle.spu_elf.specs.Executables.{exec_fault, exec_in}
 use Rattle.spu_elf.specs.declared.faults.ElfKind.TheVariants as kinds
 use Rattle.spu_elf.specs.declared.faults.ElfFault.{ElfFault}
 use Rattle.spu_elf.specs.declared.faults.ElfFault.TheVariants as elf
@@ -19,14 +18,14 @@ use Rattle.spu_elf.specs.declared.objects.Symbol.{Symbol}
 use Rattle.spu_elf.specs.declared.executables.Exec.{Exec}
 use Rattle.spu_elf.proofs.ExecutableFields.{IsBytes, both_pass, not_failing, was_true, bytes_stand, stands_part, stands_reaches, stands_right, stands_all}
 use Rattle.spu_elf.proofs.ExecutableWhole.{exec_back}
-use Rattle.spu_cesof.specs.Embedding.{is_entry, entry_names, handle_bytes, handle_relocs, toe_relocs, embedding, Embeds}
-use Rattle.spu_cesof.specs.Outline.{section_count, symbols_number, sections_in, places_in, image_of, section_names, names_size, symbols_row}
+use Rattle.spu_cesof.specs.Embedding.{is_entry, entry_names, handle_bytes, handle_relocs, toe_relocs, embedding}
+use Rattle.spu_cesof.specs.Outline.{section_count, symbols_number, sections_in, places_in, image_of, symbols_row}
 use Rattle.spu_cesof.specs.Unpacking.{names_in, name_in, entry_names_in, joined, front_check, heads_check, padding_check, symbols_check, strings_check, end_check, object_check, handle_check, toe_check, found, ◌or_else◌, fault_with, cesof_fault, image_in}
-use Rattle.spu_cesof.specs.Answers.{Says, IsEmbedded}
+use Rattle.spu_cesof.specs.Answers.{IsEmbedded}
 use Rattle.spu_cesof.specs.declared.faults.CesofFault.{CesofFault}
 use Rattle.spu_cesof.specs.declared.faults.CesofFault.TheVariants as faults
 use Rattle.spu_cesof.specs.declared.places.Places.{Places}
-use Rattle.spu_cesof.proofs.Spelled.{Laid, Fits, strings_of, entries_of, row}
+use Rattle.spu_cesof.proofs.Spelled.{Laid, Fits, strings_of, row}
 use Rattle.spu_cesof.proofs.Whole.{whole, spelled, Piece, Follow, AllStand, together, all_together, pieces, together_is, follow, some_by}
 use Rattle.spu_cesof.proofs.NamesBack.{Printed, length_names_in, names_again}
 use Rattle.spu_cesof.proofs.Back.{FrontBack, front_back, RowsBack, rows_back, symbols_row_stands, laid_in, count_in, shoff_in, strings_some, SymbolsThere, symbols_there, StringsThere, strings_there}

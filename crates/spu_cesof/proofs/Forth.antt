@@ -1,35 +1,22 @@
 -- The embedding of an executable has no fault, and is read as that executable.
-use Rattle.std.proofs.Common.{◌≡◌, ℕ, zero, suc, ◌+◌, ◌-◌, ◌*◌, ◌/◌, ◌%◌, ◌^◌, ◌<◌, ◌≤◌, Bool, true, false, not, ◌&&◌, List, [], ◌∷◌, ◌++◌, length, take, drop, map, replicate, codes, slice_index, Option, None, nat_lt, nat_le, if◌then◌else◌, ◌==◌, refl, sym, ap, subst, ◌∙◌, append_assoc, append-nil, eq-eqb, ne_eqb, lit<, arith}
-use Rattle.std.specs.List.{flat_map, All, AllByRecursion, prefix_len}
-use Rattle.std.proofs.lemmas.Bool.{le-ltb, ltb-true, eqb-true}
-use Rattle.std.proofs.lemmas.Bool.Decides.{nat_tests}
-use Rattle.std.proofs.lemmas.List.{length-append, length-take, length-drop, length-map, take_all}
-use Rattle.std.proofs.lemmas.List.Elements.{All-nil, All-cons, All-head, All-tail, All-drop}
+use Rattle.std.proofs.Common.{◌≡◌, ℕ, zero, suc, ◌+◌, ◌-◌, ◌*◌, ◌/◌, ◌^◌, ◌<◌, ◌≤◌, Bool, true, false, not, List, [], ◌∷◌, ◌++◌, length, take, drop, replicate, slice_index, None, nat_lt, if◌then◌else◌, ◌==◌, refl, sym, ap, subst, ◌∙◌, eq-eqb, ne_eqb, lit<, arith}
+use Rattle.std.specs.List.{flat_map, All, AllByRecursion}
+use Rattle.std.proofs.lemmas.Bool.{le-ltb, eqb-true}
 use Rattle.spu_word.specs.Bytes.{be_digits, be_half_digits, be_number, be_half_number}
-use Rattle.spu_word.proofs.Stands.{Stands, stands_at, stands_inner, stands_number, stands_slice}
-use Rattle.spu_elf.specs.Checks.{fails, ◌then_check◌, byte_check, words_check, bytes_check, halves_check}
+use Rattle.spu_word.proofs.Stands.{Stands, stands_at, stands_inner, stands_number}
+use Rattle.spu_elf.specs.Checks.{fails, words_check, halves_check}
 use Rattle.spu_elf.specs.Reading.{ident_checks}
-use Rattle.spu_elf.specs.Rows.{padding, elf_header, section_words, relocations_head, symbol_info, place_number, ended}
-use Rattle.spu_elf.specs.Spelling.{Symbols, symbol_table, relocation}
-use Rattle.spu_elf.specs.Validity.{IsName, IsExecSymbol}
-use Rattle.spu_elf.specs.Executables.{null_check, name_len, after_name, valid_len, name_check}
+use Rattle.spu_elf.specs.Rows.{padding, elf_header, section_words, relocations_head}
+use Rattle.spu_elf.specs.Validity.{IsName}
 use Rattle.spu_elf.specs.declared.faults.ElfKind.{ElfKind}
 use Rattle.spu_elf.specs.declared.faults.ElfKind.TheVariants as kinds
-use Rattle.spu_elf.specs.declared.faults.ElfFault.{ElfFault}
-use Rattle.spu_elf.specs.declared.objects.Symbol.{Symbol}
-use Rattle.spu_elf.proofs.Passing.{pass}
-use Rattle.spu_elf.proofs.Failing.{left_true, right_true}
 use Rattle.spu_elf.proofs.SpelledSymbols.{byte_stands, half_stands}
-use Rattle.spu_elf.proofs.ExecutableFields.{pass_both, passing, byte_passes, half_passes, word_passes, words_pass, halves_pass, bytes_pass, stands_left, stands_right, stands_reaches}
-use Rattle.spu_elf.proofs.ExecutableParts.{ended_name}
-use Rattle.spu_elf.proofs.ExecutableSpelling.{place_of, entry_text, entries_text, symbol_names, table_is}
-use Rattle.spu_cesof.specs.Embedding.{is_entry, entry_names, handle_bytes, handle_relocs, toe_relocs, section_symbol, handle_symbol, entry_symbol, named_symbols, object_symbols}
-use Rattle.spu_cesof.specs.Outline.{section_count, symbols_number, sections_in, entries_in, at_least_one, places_with, places_in, image_of, section_names, image_row, toe_row, handle_row, toe_relocs_row, handle_relocs_row, symbols_row, strings_row, names_row, names_size}
-use Rattle.spu_cesof.specs.Unpacking.{names_in, strings_in, name_in, entry_names_in, joined, front_check, row_check, sections_check, relocs_rows_check, tables_check, heads_check, padding_check, symbol_check, named_check, named_checks, section_symbols_check, symbols_check, names_check, strings_check, end_check, object_check, handle_check, toe_check}
+use Rattle.spu_elf.proofs.ExecutableFields.{pass_both, passing, words_pass, halves_pass, bytes_pass, stands_left, stands_right}
+use Rattle.spu_cesof.specs.Outline.{section_count, symbols_number, sections_in, entries_in, at_least_one, places_with, places_in, image_row, toe_row, handle_row, toe_relocs_row, handle_relocs_row, symbols_row, strings_row, names_row}
+use Rattle.spu_cesof.specs.Unpacking.{front_check, sections_check, relocs_rows_check, tables_check, heads_check}
 use Rattle.spu_cesof.specs.declared.places.Places.{Places}
-use Rattle.spu_cesof.proofs.Spelled.{Laid, Fits, strings_of, entries_of, row}
+use Rattle.spu_cesof.proofs.Spelled.{Laid, Fits, row}
 use Rattle.spu_cesof.proofs.Whole.{AllStand, pieces, front_text}
-use Rattle.spu_cesof.proofs.NamesBack.{Printed, names_joined, cut_name, names_again}
 
 -- an object of these contents
 pub record IsObject (b : List ℕ) (p : Places) (name : List ℕ) (names : List (List ℕ)) (file : List ℕ) : Type 0 where

@@ -1,16 +1,16 @@
 -- The symbols, the names and the whole of the embedding of an executable pass, and are read again.
-use Rattle.std.proofs.Common.{◌≡◌, ℕ, zero, suc, ◌+◌, ◌-◌, ◌*◌, ◌/◌, ◌%◌, ◌^◌, ◌<◌, ◌≤◌, Bool, true, false, not, ◌&&◌, List, [], ◌∷◌, ◌++◌, length, take, drop, map, replicate, codes, slice_index, Option, None, nat_lt, nat_le, cond, if◌then◌else◌, ◌==◌, refl, sym, ap, subst, ◌∙◌, append_assoc, append-nil, eq-eqb, ne_eqb, lit<, arith}
+use Rattle.std.proofs.Common.{◌≡◌, ℕ, ◌+◌, ◌-◌, ◌*◌, ◌^◌, ◌<◌, ◌≤◌, Bool, true, false, not, ◌&&◌, List, [], ◌∷◌, ◌++◌, length, take, drop, map, replicate, codes, Option, None, nat_lt, nat_le, cond, if◌then◌else◌, ◌==◌, refl, sym, ap, subst, ◌∙◌, append-nil, eq-eqb, ne_eqb, lit<, arith}
 use Rattle.std.specs.List.{flat_map, All, prefix_len}
 use Rattle.std.specs.Str.{bytes_eq}
 use Rattle.std.proofs.lemmas.Bool.{le-ltb, ltb-true}
 use Rattle.std.proofs.lemmas.Bool.Decides.{nat_tests}
-use Rattle.std.proofs.lemmas.List.{length-append, length-take, length-drop, length-map, take_all}
+use Rattle.std.proofs.lemmas.List.{length-append, length-drop, take_all}
 use Rattle.std.proofs.lemmas.List.Elements.{All-nil, All-cons, All-head, All-tail, All-drop}
 use Rattle.spu_word.specs.Bytes.{be_digits, be_half_digits}
-use Rattle.spu_word.proofs.Stands.{Stands, stands_at, stands_slice, stands_whole}
-use Rattle.spu_elf.specs.Checks.{fails, ◌then_check◌, byte_check, bytes_check}
+use Rattle.spu_word.proofs.Stands.{Stands, stands_slice, stands_whole}
+use Rattle.spu_elf.specs.Checks.{bytes_check}
 use Rattle.spu_elf.specs.Rows.{padding, ended, symbol_info, place_number}
-use Rattle.spu_elf.specs.Spelling.{Symbols, symbol_table, relocation, spell_exec}
+use Rattle.spu_elf.specs.Spelling.{Symbols, relocation, spell_exec}
 use Rattle.spu_elf.specs.Validity.{IsName, IsExecSymbol, IsValidExec}
 use Rattle.spu_elf.specs.Executables.{null_check, name_len, after_name, valid_len, name_check, exec_fault, exec_in}
 use Rattle.spu_elf.specs.declared.faults.ElfKind.TheVariants as kinds
@@ -23,16 +23,16 @@ use Rattle.spu_elf.proofs.ExecutableFields.{pass_both, passing, byte_passes, hal
 use Rattle.spu_elf.proofs.ExtentLemmas.{few_exec_symbols}
 use Rattle.spu_elf.proofs.ExecutableParts.{ended_name}
 use Rattle.spu_elf.proofs.ExecutableRound.{spelled_passes, spelled_is}
-use Rattle.spu_elf.proofs.ExecutableSpelling.{place_of, entry_text, entries_text, symbol_names, table_is}
+use Rattle.spu_elf.proofs.ExecutableSpelling.{place_of, entry_text, entries_text, table_is}
 use Rattle.spu_cesof.specs.Embedding.{is_entry, is_object, entry_names, handle_bytes, handle_relocs, toe_relocs, section_symbol, handle_symbol, entry_symbol, named_symbols, object_symbols, embedding}
-use Rattle.spu_cesof.specs.Outline.{section_count, symbols_number, sections_in, places_with, places_in, image_of, section_names, names_size, symbols_row}
-use Rattle.spu_cesof.specs.Unpacking.{names_in, strings_in, name_in, entry_names_in, joined, front_check, heads_check, padding_check, symbol_check, named_check, named_checks, section_symbols_check, symbols_check, names_check, strings_check, end_check, object_check, handle_check, toe_check, found, ◌or_else◌, fault_with, cesof_fault, image_in}
+use Rattle.spu_cesof.specs.Outline.{section_count, symbols_number, places_with, image_of, section_names, symbols_row}
+use Rattle.spu_cesof.specs.Unpacking.{names_in, strings_in, name_in, entry_names_in, joined, front_check, padding_check, symbol_check, named_check, named_checks, section_symbols_check, symbols_check, names_check, strings_check, object_check, handle_check, toe_check, found, ◌or_else◌, fault_with}
 use Rattle.spu_cesof.specs.Answers.{Unpacks}
 use Rattle.spu_cesof.specs.declared.faults.CesofFault.{CesofFault}
 use Rattle.spu_cesof.specs.declared.faults.CesofFault.TheVariants as faults
 use Rattle.spu_cesof.specs.declared.places.Places.{Places}
 use Rattle.spu_cesof.proofs.Spelled.{Laid, Fits, strings_of, entries_of, row}
-use Rattle.spu_cesof.proofs.Whole.{whole, spelled, Follow, AllStand, all_apart, together, together_is, pieces, follow, some_by}
+use Rattle.spu_cesof.proofs.Whole.{spelled, all_apart, together_is, pieces, follow, some_by}
 use Rattle.spu_cesof.proofs.BackWhole.{length_together}
 use Rattle.spu_cesof.proofs.NamesBack.{Printed, names_joined, cut_name, names_again}
 use Rattle.spu_cesof.proofs.Forth.{IsObject, Read, read, front_passes, heads_pass}

@@ -1,16 +1,15 @@
 -- What passes the checks of symbols and names is the symbol table of the names that are read.
-use Rattle.std.proofs.Common.{◌≡◌, ℕ, zero, suc, ◌+◌, ◌-◌, ◌*◌, ◌<◌, ◌≤◌, Bool, true, false, not, ◌&&◌, List, [], ◌∷◌, ◌++◌, length, take, drop, map, replicate, get_or, Option, None, nat_lt, nat_le, ◌==◌, refl, sym, ap, subst, ◌∙◌, append_assoc, append-nil, cond, ne_eqb, arith}
+use Rattle.std.proofs.Common.{◌≡◌, ℕ, zero, suc, ◌+◌, ◌*◌, ◌<◌, ◌≤◌, Bool, true, false, not, ◌&&◌, List, [], ◌∷◌, ◌++◌, length, take, drop, map, replicate, get_or, Option, None, nat_lt, nat_le, ◌==◌, refl, sym, ap, subst, ◌∙◌, append_assoc, cond, ne_eqb, arith}
 use Rattle.std.specs.List.{flat_map, All, prefix_len}
 use Rattle.std.proofs.lemmas.Bool.{ltb-false}
 use Rattle.std.proofs.lemmas.Bool.Decides.{nat_tests}
-use Rattle.std.proofs.lemmas.List.{length-append, length-take, length-drop, length-map, take_all, take_at, drop_at}
+use Rattle.std.proofs.lemmas.List.{length-append, length-take, length-drop, take_all, take_at, drop_at}
 use Rattle.std.proofs.lemmas.List.Sums.{prefix_len-le-length, prefix_len_passes}
 use Rattle.std.proofs.lemmas.List.Elements.{All-nil, All-cons, All-head, All-tail}
 use Rattle.spu_word.specs.Bytes.{be_digits, be_half_digits}
 use Rattle.spu_word.proofs.Stands.{Stands}
 use Rattle.spu_elf.specs.Checks.{fails, ◌then_check◌, words_check, bytes_check, half_check}
 use Rattle.spu_elf.specs.Rows.{ended, symbol_info, place_number}
-use Rattle.spu_elf.specs.Validity.{IsName}
 use Rattle.spu_elf.specs.Executables.{null_check, name_len, after_name, valid_len, name_check}
 use Rattle.spu_elf.specs.declared.faults.ElfKind.TheVariants as kinds
 use Rattle.spu_elf.specs.declared.faults.ElfFault.{ElfFault}
@@ -19,7 +18,7 @@ use Rattle.spu_elf.proofs.ExecutableFields.{IsBytes, both_pass, not_failing, wor
 use Rattle.spu_elf.proofs.ExecutableNames.{split_name, length_name}
 use Rattle.spu_elf.proofs.ExecutableParts.{ended_name}
 use Rattle.spu_elf.proofs.ExecutableSpelling.{place_of, entry_text, entries_text, symbol_names}
-use Rattle.spu_cesof.specs.Embedding.{handle_symbol, entry_symbol, named_symbols}
+use Rattle.spu_cesof.specs.Embedding.{entry_symbol}
 use Rattle.spu_cesof.specs.Unpacking.{names_in, joined, symbol_check, named_check, named_checks, names_check}
 use Rattle.spu_cesof.specs.declared.places.Places.{Places}
 

@@ -1,19 +1,17 @@
 -- The object of an embedded executable, part by part.
-use Rattle.std.proofs.Common.{◌≡◌, ℕ, suc, ◌+◌, ◌-◌, ◌*◌, ◌%◌, ◌<◌, ◌≤◌, Bool, true, false, List, [], ◌∷◌, ◌++◌, length, take, drop, map, replicate, codes, if◌then◌else◌, ◌==◌, refl, sym, ap, subst, ◌∙◌, append_assoc, append-nil, ne_eqb, arith}
-use Rattle.std.specs.List.{fold, flat_map, take_while, prefix_len}
+use Rattle.std.proofs.Common.{◌≡◌, ℕ, ◌+◌, ◌*◌, List, [], ◌∷◌, ◌++◌, length, take, drop, replicate, codes, refl, sym, ap, ◌∙◌, append_assoc, arith}
+use Rattle.std.specs.List.{fold, prefix_len}
 use Rattle.std.proofs.lemmas.List.{length-append, length-replicate, replicate-append-replicate, take_at, drop_at}
 use Rattle.std.proofs.lemmas.List.Sums.{fold-append}
-use Rattle.spu_elf.specs.Spelling.{Part, Draft, Group, added, blank, closed, section_part, relocation, relocation_part, groups, group_of, is_in, section_header, symbol_part, string_table, symbol_table, with_tables, file_of, draft_from}
+use Rattle.spu_elf.specs.Spelling.{Part, Draft, Group, added, blank, closed, groups, group_of, is_in, section_header, symbol_part, with_tables, file_of}
 use Rattle.spu_elf.specs.Rows.{aligned, padding, ended}
 use Rattle.spu_elf.specs.declared.objects.Reloc.{Reloc}
 use Rattle.spu_elf.specs.declared.objects.Section.{Section}
 use Rattle.spu_elf.specs.declared.objects.Symbol.{Symbol}
 use Rattle.spu_elf.proofs.DraftLemmas.{length_aligned}
-use Rattle.spu_elf.proofs.ExtentLemmas.{length_relocations}
 use Rattle.spu_elf.proofs.ExecutableSpelling.{body, heads, names_of, place_of, drafted, names_part, strings_part}
 use Rattle.spu_elf.proofs.ExecutableTables.{tail_parts}
-use Rattle.spu_cesof.specs.Embedding.{object_sections, object_symbols, toe_relocs, handle_relocs, object_of, handle_bytes, data_section}
-use Rattle.spu_cesof.specs.Outline as outline
+use Rattle.spu_cesof.specs.Embedding.{object_sections, toe_relocs, handle_relocs, handle_bytes, data_section}
 
 -- ---- the relocations, section by section
 

@@ -1,22 +1,21 @@
 -- The spelling of the object of an embedded executable, text by text.
-use Rattle.std.proofs.Common.{◌≡◌, ℕ, suc, ◌+◌, ◌-◌, ◌*◌, ◌%◌, ◌<◌, ◌≤◌, Bool, true, false, List, [], ◌∷◌, ◌++◌, length, take, drop, map, replicate, codes, if◌then◌else◌, ◌==◌, refl, sym, ap, subst, ◌∙◌, append_assoc, append-nil, ne_eqb, arith}
+use Rattle.std.proofs.Common.{◌≡◌, ℕ, ◌+◌, ◌-◌, ◌*◌, ◌%◌, Bool, true, false, List, [], ◌∷◌, ◌++◌, length, drop, map, replicate, codes, if◌then◌else◌, ◌==◌, refl, sym, ap, ◌∙◌, append_assoc, ne_eqb, arith}
 use Rattle.std.specs.List.{fold, flat_map}
-use Rattle.std.proofs.lemmas.List.{length-append, length-replicate, length-map}
+use Rattle.std.proofs.lemmas.List.{length-replicate, length-map}
 use Rattle.spu_word.specs.Bytes.{be_digits}
-use Rattle.spu_elf.specs.Spelling.{Part, Draft, Group, added, blank, section_part, relocation, relocation_part, groups, symbol_part, symbol_table, with_tables, file_of, draft_from, spell_from, section_header, locals}
-use Rattle.spu_elf.specs.Rows.{aligned, padding, elf_header, section_words, data_head, relocations_head}
-use Rattle.spu_elf.specs.declared.rows.Head.{Head}
+use Rattle.spu_elf.specs.Spelling.{Part, Draft, Group, added, blank, section_part, relocation, relocation_part, symbol_table, with_tables, draft_from, section_header}
+use Rattle.spu_elf.specs.Rows.{padding, section_words, data_head, relocations_head}
 use Rattle.spu_elf.specs.declared.objects.SecKind.TheVariants as kinds
 use Rattle.spu_elf.specs.declared.objects.Section.{Section}
 use Rattle.spu_elf.specs.declared.objects.Symbol.{Symbol}
 use Rattle.spu_elf.proofs.DraftLemmas.{no_padding_4}
 use Rattle.spu_elf.proofs.ExtentLemmas.{length_relocations, length_entries}
-use Rattle.spu_elf.proofs.ExecutableSpelling.{body, heads, names_of}
+use Rattle.spu_elf.proofs.ExecutableSpelling.{body, heads}
 use Rattle.spu_elf.proofs.ExecutableTables.{tail_parts, tail_body, tail_heads, three}
-use Rattle.spu_cesof.specs.Embedding.{object_sections, object_symbols, entry_symbol, toe_relocs, handle_relocs, object_of, handle_bytes, data_section, embedding}
-use Rattle.spu_cesof.specs.Outline.{section_count, symbols_number, later_names, table_names, names_size, section_names, image_row, toe_row, handle_row, toe_relocs_row, handle_relocs_row, symbols_row, strings_row, names_row}
+use Rattle.spu_cesof.specs.Embedding.{object_sections, object_symbols, entry_symbol, toe_relocs, handle_relocs, object_of, handle_bytes, data_section}
+use Rattle.spu_cesof.specs.Outline.{names_size, section_names, image_row, toe_row, handle_row, toe_relocs_row, handle_relocs_row, symbols_row, strings_row, names_row}
 use Rattle.spu_cesof.specs.declared.places.Places.{Places}
-use Rattle.spu_cesof.proofs.Parts.{toe_group, handle_group, group_list, groups_are, all_names, tables_draft, filed, headers_place, body_step, head_step}
+use Rattle.spu_cesof.proofs.Parts.{toe_group, handle_group, group_list, groups_are, all_names, tables_draft, body_step, head_step}
 
 -- ---- the parts
 

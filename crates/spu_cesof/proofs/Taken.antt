@@ -1,5 +1,5 @@
 -- What unpack answers.
-use Rattle.std.proofs.Common.{◌≡◌, List, ℕ, ◌≤◌, length, Result, Ok, Err, None, sym, subst}
+use Rattle.std.proofs.Common.{◌≡◌, List, ℕ, Result, Ok, Err, sym, subst}
 use Rattle.std.specs.Result.{IfOk}
 use Rattle.spu_elf.proofs.ExecutableFields.{IsBytes}
 use Rattle.spu_cesof.specs.Answers.{Says, IsEmbedded}

@@ -1,16 +1,16 @@
 -- The spelling of the object of an embedded executable, and the texts that stand in it, one behind the other.
-use Rattle.std.proofs.Common.{◌≡◌, ℕ, ◌+◌, ◌-◌, ◌*◌, ◌%◌, ◌<◌, ◌≤◌, Bool, true, false, List, [], ◌∷◌, ◌++◌, length, map, replicate, if◌then◌else◌, ◌==◌, refl, sym, ap, subst, ◌∙◌, append_assoc, append-nil, arith}
+use Rattle.std.proofs.Common.{◌≡◌, ℕ, ◌+◌, ◌-◌, ◌*◌, ◌<◌, ◌≤◌, Bool, true, false, List, [], ◌∷◌, ◌++◌, length, replicate, if◌then◌else◌, ◌==◌, refl, sym, ap, subst, ◌∙◌, append_assoc, append-nil, arith}
 use Rattle.std.specs.List.{flat_map}
 use Rattle.std.proofs.lemmas.List.{length-append, length-replicate, length-map}
-use Rattle.spu_word.proofs.Stands.{Stands, stands_at, stands_whole}
-use Rattle.spu_elf.specs.Spelling.{Draft, Group, groups, relocation, file_of, draft_from, spell_from, added, blank}
+use Rattle.spu_word.proofs.Stands.{Stands, stands_at}
+use Rattle.spu_elf.specs.Spelling.{Draft, Group, groups, relocation, file_of, added, blank}
 use Rattle.std.specs.List.{fold}
 use Rattle.spu_elf.specs.Rows.{aligned, padding, elf_header, section_words, relocations_head}
 use Rattle.spu_elf.proofs.ExtentLemmas.{length_relocations, length_entries}
-use Rattle.spu_elf.proofs.ExecutableFields.{stands_join, stands_left, stands_right, stands_all}
+use Rattle.spu_elf.proofs.ExecutableFields.{stands_join, stands_left, stands_right}
 use Rattle.spu_elf.proofs.ExecutableSpelling.{body, heads}
-use Rattle.spu_cesof.specs.Embedding.{object_sections, entry_symbol, toe_relocs, handle_relocs, object_of, object_symbols, handle_bytes, embedding}
-use Rattle.spu_cesof.specs.Outline.{section_count, symbols_number, names_size, section_names, image_row, toe_row, handle_row, toe_relocs_row, handle_relocs_row, symbols_row, strings_row, names_row}
+use Rattle.spu_cesof.specs.Embedding.{object_sections, entry_symbol, toe_relocs, handle_relocs, object_symbols, handle_bytes, embedding}
+use Rattle.spu_cesof.specs.Outline.{section_count, symbols_number, section_names, image_row, toe_row, handle_row, toe_relocs_row, handle_relocs_row, symbols_row, strings_row, names_row}
 use Rattle.spu_cesof.specs.declared.places.Places.{Places}
 use Rattle.spu_cesof.proofs.Parts.{group_list, groups_are, filed, headers_place}
 use Rattle.spu_cesof.proofs.Spelled.{Laid, Fits, strings_of, entries_of, all_parts, draft_is, body_text, body_is, row, rows_text, heads_are, length_toe, length_names, some}

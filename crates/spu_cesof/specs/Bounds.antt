@@ -1,5 +1,5 @@
 -- What the sizes that an object is read with are below, so that no sum of them wraps.
-use Rattle.std.specs.Prelude.{ℕ, ◌+◌, ◌*◌, ◌^◌, ◌<◌, ◌≤◌, ◌≡◌}
+use Rattle.std.specs.Prelude.{◌+◌, ◌*◌, ◌^◌, ◌<◌, ◌≤◌, ◌≡◌}
 use Rattle.spu_word.specs.declared.limits.TheConstants.{MAX_FILE_SIZE, MAX_SYMBOLS}
 use Rattle.spu_elf.specs.declared.constants.TheConstants.{SYM_SIZE}
 use Rattle.spu_cesof.specs.declared.constants.TheConstants.{FIRST_ENTRY}

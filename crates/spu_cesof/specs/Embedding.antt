@@ -1,7 +1,7 @@
 -- The object for the PowerPC that an executable of the SPU is embedded in. CBE Embedded SPU Object Format, "Embedding"; System V ELF,
 -- "Object Files". Three sections hold the executable's file, the table of effective addresses with an entry for each `_EAR_` symbol
 -- of the executable, and the handle, by whose name programs refer to both.
-use Rattle.std.specs.Prelude.{◌≡◌, ℕ, pos, ◌+◌, ◌*◌, ◌<◌, ◌≤◌, ◌&&◌, Bool, true, false, List, [], ◌∷◌, ◌++◌, length, take, drop, map, replicate, codes, nat_lt, if◌then◌else◌}
+use Rattle.std.specs.Prelude.{◌≡◌, ℕ, pos, ◌+◌, ◌*◌, ◌≤◌, ◌&&◌, Bool, true, false, List, [], ◌∷◌, ◌++◌, length, take, drop, map, replicate, codes, nat_lt, if◌then◌else◌}
 use Rattle.std.specs.List.{flat_map}
 use Rattle.std.specs.Str.{bytes_eq}
 use Rattle.spu_word.specs.Bytes.{be_digits}

@@ -1,6 +1,6 @@
 -- Reading an object in which an executable is embedded: its parts, and the first field, in the order below, that isn't as the embedding
 -- of those parts has it. System V ELF, "Object Files"; CBE Embedded SPU Object Format, "Embedding".
-use Rattle.std.specs.Prelude.{◌≡◌, ℕ, zero, suc, ◌+◌, ◌-◌, ◌*◌, Bool, not, ◌&&◌, List, [], ◌∷◌, ◌++◌, length, take, drop, replicate, Option, Some, None, Result, Ok, Err, if◌then◌else◌, nat_lt, nat_le, ◌==◌}
+use Rattle.std.specs.Prelude.{ℕ, zero, suc, ◌+◌, ◌-◌, ◌*◌, not, ◌&&◌, List, [], ◌∷◌, ◌++◌, length, take, drop, replicate, Option, Some, None, nat_lt, nat_le, ◌==◌}
 use Rattle.std.specs.List.{flat_map}
 use Rattle.spu_word.specs.Bytes.{be_number}
 use Rattle.spu_elf.specs.declared.constants.TheConstants.{EHDR_SIZE, EI_PAD, EI_PAD_SIZE, EM_PPC, ET_REL, E_EHSIZE, E_SHOFF, E_VERSION, SECTION_STEP, SHDR_SIZE, SH_ADDRALIGN, SH_INFO, SH_SIZE, ST_INFO, ST_SHNDX, SYM_SIZE, TABLE_ALIGN}
@@ -13,7 +13,7 @@ use Rattle.spu_elf.specs.declared.faults.ElfKind.TheVariants as kinds
 use Rattle.spu_elf.specs.declared.faults.ElfFault.{ElfFault}
 use Rattle.spu_elf.specs.declared.faults.ElfFault.TheVariants as elf
 use Rattle.spu_elf.specs.declared.objects.Symbol.{Symbol}
-use Rattle.spu_cesof.specs.declared.constants.TheConstants.{FIRST_ENTRY, HANDLE_SIZE, IMAGE_ALIGN, TOE_ENTRY_SIZE}
+use Rattle.spu_cesof.specs.declared.constants.TheConstants.{FIRST_ENTRY, IMAGE_ALIGN, TOE_ENTRY_SIZE}
 use Rattle.spu_cesof.specs.declared.faults.CesofFault.{CesofFault}
 use Rattle.spu_cesof.specs.declared.faults.CesofFault.TheVariants as faults
 use Rattle.spu_cesof.specs.declared.places.Places.{Places}

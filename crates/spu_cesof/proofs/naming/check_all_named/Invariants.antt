@@ -1,4 +1,4 @@
-use Rattle.std.proofs.Common.{◌≡◌, ◌≤◌, ◌<◌, ◌^◌, ◌+◌, ◌*◌, drop, length}
+use Rattle.std.proofs.Common.{◌≡◌, ◌≤◌, ◌^◌, ◌+◌, ◌*◌, drop}
 use Rattle.spu_cesof.specs.Unpacking.{named_checks}
 use Rattle.spu_cesof.proofs.naming.check_all_named.Given as goal
 

@@ -1,4 +1,4 @@
-use Rattle.std.proofs.Common.{◌≡◌, ◌++◌, ◌∷◌, [], drop, map}
+use Rattle.std.proofs.Common.{◌≡◌, ◌++◌, drop, map}
 use Rattle.spu_cesof.specs.Embedding.{named_symbols, entry_symbol}
 use Rattle.spu_cesof.proofs.object.add_named.Given as goal
 
