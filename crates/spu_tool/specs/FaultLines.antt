@@ -5,6 +5,8 @@ use Rattle.spu_asm.specs.declared.faults.AsmKind.{AsmKind}
 use Rattle.spu_asm.specs.declared.faults.AsmKind.TheVariants as asm
 use Rattle.spu_elf.specs.declared.faults.ElfKind.{ElfKind}
 use Rattle.spu_elf.specs.declared.faults.ElfKind.TheVariants as elf
+use Rattle.spu_cesof.specs.declared.faults.CesofFault.{CesofFault}
+use Rattle.spu_cesof.specs.declared.faults.CesofFault.TheVariants as cesof
 
 abbrev pub asm_name : AsmKind → List ℕ
 asm_name asm.NotAscii = codes "A1 NotAscii"
@@ -46,3 +48,11 @@ form_line file = codes "L0 NotBuilt " ++ file ++ codes "\n"
 -- a segment that doesn't lie in the local store
 abbrev pub segment_line : ℕ → List ℕ
 segment_line number = codes "M4 SegmentRange " ++ decimal number ++ codes "\n"
+
+-- what is wrong with an embedded executable, and the place or the size
+abbrev pub cesof_line : CesofFault → List ℕ
+cesof_line (cesof.NotCesof place) = codes "C1 NotCesof " ++ decimal place ++ codes "\n"
+cesof_line (cesof.BadHandle place) = codes "C2 BadHandle " ++ decimal place ++ codes "\n"
+cesof_line (cesof.BadToe place) = codes "C3 BadToe " ++ decimal place ++ codes "\n"
+cesof_line (cesof.TooLarge size) = codes "C4 TooLarge " ++ decimal size ++ codes "\n"
+cesof_line cesof.OutOfMemory = []

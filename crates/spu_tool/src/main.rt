@@ -5,6 +5,7 @@ mod arguments;
 mod assemble_command;
 mod command;
 mod concluding;
+mod embed_command;
 mod fault_lines;
 mod link_command;
 mod lists;

@@ -7,7 +7,7 @@ use spu_io::LastFault;
 use std::alloc::Global;
 use std::io;
 
-const USAGE: &str = "asm IN OUT | link OUT IN | run IN [--steps=N] [--mail=N,N]";
+const USAGE: &str = "asm IN OUT | link OUT IN | embed NAME IN OUT | run IN [--steps=N] [--mail=N,N]";
 
 /// The words of a command, or of all.
 fn usage(words: &[String]) -> &'static str {
@@ -17,6 +17,7 @@ fn usage(words: &[String]) -> &'static str {
     {
         Some(Command::Assemble) => "asm IN OUT",
         Some(Command::Link) => "link OUT IN",
+        Some(Command::Embed) => "embed NAME IN OUT",
         Some(Command::Run) => "run IN [--steps=N] [--mail=N,N]",
         None => USAGE,
     }
