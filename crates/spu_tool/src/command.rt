@@ -1,10 +1,11 @@
 //! The commands: their names, operands and options.
 
 ghost use Rattle.std.specs.Prelude.{◌≡◌, ℕ};
+ghost use Rattle.std.specs.List.{list_all};
+ghost use Rattle.spu_elf.specs.Validity.{is_printed};
 ghost use Rattle.spu_tool.specs.Arguments.{is_symbol_name};
 
 use crate::options::OptionName;
-use spu_elf::is_printed;
 use spu_word::limits::MAX_NAME_SIZE;
 
 /// A command.
@@ -20,13 +21,20 @@ pub enum Command {
     Run,
 }
 
+/// Whether each byte may stand in a name.
+fn are_printed(word: &[u8]) -> bool
+    ensures { result ≡ list_all is_printed word.now }
+{
+    word.iter().all(|c| 33 <= *c && *c <= 126)
+}
+
 /// Whether a word may name a symbol.
 fn is_symbol_name(word: &[u8]) -> bool
     ensures { result ≡ is_symbol_name word.now }
 {
     !word.is_empty()
         && word.len() <= MAX_NAME_SIZE as usize
-        && word.iter().all(|c| is_printed(*c))
+        && are_printed(word)
 }
 
 impl Command {

@@ -1,14 +1,13 @@
 //! What `embed` makes of an executable's bytes, and `run` of an object that embeds one.
 
-ghost use Rattle.std.specs.Prelude.{◌≡◌, ◌⊎◌, None, true, codes, ◌++◌, IfOk};
-ghost use Rattle.std.specs.Fmt.{decimal};
+ghost use Rattle.std.specs.Prelude.{◌≡◌, ◌⊎◌, None, true, IfOk};
 ghost use Rattle.spu_tool.specs.Options.{AreSound};
 ghost use Rattle.spu_cesof.specs.Unpacking.{cesof_fault};
 ghost use Rattle.spu_elf.specs.Executables.{exec_fault};
 ghost use Rattle.spu_elf.specs.Spelling.{spell_exec};
 ghost use Rattle.spu_elf.specs.Validity.{IsName, IsValidExec};
 ghost use Rattle.spu_tool.specs.FaultLines.{cesof_line};
-ghost use Rattle.spu_tool.specs.Makes.{MakesEmbed, EmbedsTo, EmbedsNot, is_embedded, MakesRunOf, RunsEmbedded, UnpacksNot, refused};
+ghost use Rattle.spu_tool.specs.Makes.{MakesEmbed, EmbedsTo, EmbedsNot, count_line, is_embedded, MakesRunOf, RunsEmbedded, UnpacksNot, refused};
 ghost use Rattle.spu_cesof.specs.declared.faults.CesofFault.TheVariants as cesof;
 
 use crate::fault_lines::{elf_refusal, refusal};
@@ -16,6 +15,7 @@ use crate::made::Made;
 use crate::options::RunOptions;
 use crate::run_command::run_command;
 use crate::status::Status;
+use crate::texts::count_line;
 use spu_cesof::{CesofFault, embed, unpack};
 use spu_elf::constants::E_MACHINE;
 use spu_elf::reading::fields::part;
@@ -25,10 +25,10 @@ use std::alloc::Global;
 
 /// A fault, and its place or size.
 fn number_refusal(alloc: Global, what: &str, number: u64) -> Result<Made, OutOfMemory>
-    ensures { IfOk result (λ m. m ≡ refused (what.now ++ codes " " ++ decimal number ++ codes "\n")) }
+    ensures { IfOk result (λ m. m ≡ refused (count_line what.now number)) }
 {
-    let text = format!(in alloc; "{what} {number}\n")?;
-    refusal(alloc, text.as_str())
+    let line = count_line(alloc, what, number)?;
+    refusal(alloc, line.as_str())
 }
 
 /// What is made of an executable of this file.
