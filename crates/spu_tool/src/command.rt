@@ -32,9 +32,7 @@ fn are_printed(word: &[u8]) -> bool
 fn is_symbol_name(word: &[u8]) -> bool
     ensures { result ≡ is_symbol_name word.now }
 {
-    !word.is_empty()
-        && word.len() <= MAX_NAME_SIZE as usize
-        && are_printed(word)
+    !word.is_empty() && word.len() <= MAX_NAME_SIZE as usize && are_printed(word)
 }
 
 impl Command {

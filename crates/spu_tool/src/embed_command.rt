@@ -32,12 +32,7 @@ fn number_refusal(alloc: Global, what: &str, number: u64) -> Result<Made, OutOfM
 }
 
 /// What is made of an executable of this file.
-fn embedded(
-    alloc: Global,
-    handle: &[u8],
-    exec: &Exec,
-    file: &[u8],
-) -> Result<Made, OutOfMemory>
+fn embedded(alloc: Global, handle: &[u8], exec: &Exec, file: &[u8]) -> Result<Made, OutOfMemory>
     requires handle { IsName handle.now }
     requires valid { IsValidExec exec.now }
     requires file { file.now ≡ spell_exec exec.now }

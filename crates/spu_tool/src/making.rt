@@ -42,11 +42,14 @@ pub fn make(
     match action {
         Action::Assemble => assemble_command(alloc, first_file(files)),
         Action::Embed(handle) => {
-            embed_command(alloc, handle.as_slice(), first_name(names), first_file(files))
+            embed_command(
+                alloc,
+                handle.as_slice(),
+                first_name(names),
+                first_file(files),
+            )
         }
         Action::Link => link_command(alloc, first_name(names), first_file(files)),
-        Action::Run(options) => {
-            run_any(alloc, options, first_name(names), first_file(files))
-        }
+        Action::Run(options) => { run_any(alloc, options, first_name(names), first_file(files)) }
     }
 }

@@ -7,7 +7,8 @@ use spu_io::LastFault;
 use std::alloc::Global;
 use std::io;
 
-const USAGE: &str = "asm IN OUT | link OUT IN | embed NAME IN OUT | run IN [--steps=N] [--mail=N,N]";
+const USAGE: &str =
+    "asm IN OUT | link OUT IN | embed NAME IN OUT | run IN [--steps=N] [--mail=N,N]";
 
 /// The words of a command, or of all.
 fn usage(words: &[String]) -> &'static str {
