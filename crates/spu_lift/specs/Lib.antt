@@ -1,3 +1,10 @@
 pub mod StartCode
 pub mod FirstForm
 pub mod First
+pub mod LiftChecks
+pub mod Symbols
+pub mod Addresses
+pub mod Functions
+pub mod Words
+pub mod LiftFaults
+pub mod Lifted
