@@ -73,3 +73,48 @@ impl From<OutOfMemory> for LiftFault {
         LiftFault::OutOfMemory
     }
 }
+
+/// The fault of a symbol of this name.
+pub fn symbol_fault<T>(alloc: Global, kind: LiftKind, name: &[u8]) -> Result<T, LiftFault>
+    ensures { Names result (Some (LiftFault.Symbol kind name.now)) }
+{
+    let name = Seq::copied(alloc, name)?;
+    Err(LiftFault::Symbol { kind, name })
+}
+
+/// The fault at an offset of a section of this name.
+pub fn site_fault<T>(
+    alloc: Global,
+    kind: LiftKind,
+    object: usize,
+    section: &[u8],
+    offset: u32,
+) -> Result<T, LiftFault>
+    ensures { Names result (Some (LiftFault.Site kind object section.now offset)) }
+{
+    let object = u32::try_from(object).ok().ok_or(OutOfMemory)?;
+    let section = Seq::copied(alloc, section)?;
+    Err(LiftFault::Site {
+        kind,
+        object,
+        section,
+        offset,
+    })
+}
+
+/// The fault at an offset of the function of this name.
+pub fn word_fault<T>(
+    alloc: Global,
+    kind: LiftKind,
+    function: &[u8],
+    offset: u32,
+) -> Result<T, LiftFault>
+    ensures { Names result (Some (LiftFault.Word kind function.now offset)) }
+{
+    let function = Seq::copied(alloc, function)?;
+    Err(LiftFault::Word {
+        kind,
+        function,
+        offset,
+    })
+}
