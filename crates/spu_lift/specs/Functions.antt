@@ -8,6 +8,7 @@ use Rattle.spu_elf.specs.declared.objects.SymPlace.TheVariants as places
 use Rattle.spu_elf.specs.declared.objects.Section.{Section}
 use Rattle.spu_elf.specs.declared.objects.Symbol.{Symbol}
 use Rattle.spu_elf.specs.declared.objects.Object.{Object}
+use Rattle.spu_lift.specs.declared.extents.Place.{Place}
 use Rattle.spu_lift.specs.Symbols.{is_code, is_function}
 
 -- the numbers of the words of a section of code; data has none
@@ -21,10 +22,10 @@ is_inside s (places.Inside t) = t == s
 
 -- the symbols of functions that start at an offset of section s, and those that cover it
 abbrev pub starts_at : Object → ℕ → ℕ → Symbol → Bool
-starts_at o s at y = is_function o y && (is_inside s y.place && (y.value == at))
+starts_at o s at y = is_function o y && is_inside s y.place && (y.value == at)
 
 abbrev pub covers : Object → ℕ → ℕ → Symbol → Bool
-covers o s at y = is_function o y && (is_inside s y.place && (nat_le y.value at && nat_lt at (y.value + y.size)))
+covers o s at y = is_function o y && is_inside s y.place && nat_le y.value at && nat_lt at (y.value + y.size)
 
 abbrev pub starting : Object → ℕ → ℕ → List Symbol
 starting o s at = filter (starts_at o s at) o.symbols
@@ -77,18 +78,13 @@ functions objects = extents_from 0 objects
 abbrev pub length_of : Extent → ℕ
 length_of e = e.symbol.size / WORD_SIZE
 
--- a word of a function, by their numbers
-pub record Place : Type 0 where
-  pub function : ℕ
-  pub word : ℕ
-
 abbrev pub holds : ℕ → ℕ → ℕ → ℕ × Extent → Bool
-holds k s at e = (e.1.number == k) && ((e.1.section == s) && (nat_le e.1.symbol.value at && nat_lt at (e.1.symbol.value + e.1.symbol.size)))
+holds k s at e = (e.1.number == k) && (e.1.section == s) && nat_le e.1.symbol.value at && nat_lt at (e.1.symbol.value + e.1.symbol.size)
 
 abbrev pub place_within : ℕ → ℕ × Extent → Place
 place_within at e = record { function = e.0; word = (at - e.1.symbol.value) / WORD_SIZE }
 
--- the place at an offset of section s of object k, none where no function has a word there
+-- the word of a function at an offset of section s of object k, none where no function has a word there
 abbrev pub place_at : List Object → ℕ → ℕ → ℕ → Option Place
 place_at objects k s at =
     if at % WORD_SIZE == 0 then option_map (place_within at) (find (holds k s at) (enumerate_from 1 (functions objects))) else None

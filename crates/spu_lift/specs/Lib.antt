@@ -8,3 +8,4 @@ pub mod Functions
 pub mod Words
 pub mod LiftFaults
 pub mod Lifted
+pub mod Views

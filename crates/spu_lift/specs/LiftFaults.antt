@@ -20,7 +20,7 @@ use Rattle.spu_lift.specs.declared.faults.LiftKind.TheVariants as faulty
 use Rattle.spu_lift.specs.declared.faults.LiftFault.{LiftFault}
 use Rattle.spu_lift.specs.declared.faults.LiftFault.TheVariants as faults
 use Rattle.spu_lift.specs.LiftChecks.{fails, ◌then_check◌, each, each_from}
-use Rattle.spu_lift.specs.Symbols.{Name, same, is_code, is_function, is_function_kind, is_undefined, section_in, is_ear, is_reserved, Owned, owned, symbols_that, definitions, named}
+use Rattle.spu_lift.specs.Symbols.{Name, same, is_code, is_function, is_function_kind, is_undefined, section_in, is_ear, is_definition, is_reserved, Owned, owned, symbols_that, definitions, named}
 use Rattle.spu_lift.specs.Functions.{words_of, covering, differ, Extent, functions, length_of}
 use Rattle.spu_lift.specs.Words.{instruction_at, is_filler, word_of, read, reloc_of, stands_at, is_on_hint, fits_section, symbol_of, named_by, place_of, is_in_code, is_relative, way_of}
 
@@ -72,24 +72,35 @@ repeated before (d ∷ ds) = fails (is_some (named d.symbol.name before)) (of_sy
 abbrev pub duplicate_symbol : List Object → Option LiftFault
 duplicate_symbol objects = repeated [] (definitions objects)
 
-abbrev pub is_missing : List Object → Option Symbol → Bool
-is_missing objects None = false
-is_missing objects (Some y) = is_undefined y.place && is_none (named y.name (definitions objects))
+-- ds are the definitions of all objects
+abbrev pub is_missing : List Owned → Option Symbol → Bool
+is_missing ds None = false
+is_missing ds (Some y) = is_undefined y.place && is_none (named y.name ds)
 
-abbrev pub lacks_symbol : List Object → Object → ℕ → Reloc → Bool
-lacks_symbol objects o j r = not (is_on_hint o r) && is_missing objects (slice_get o.symbols r.symbol)
+abbrev pub lacks_symbol : List Owned → Object → Reloc → Bool
+lacks_symbol ds o r = not (is_on_hint o r) && is_missing ds (slice_get o.symbols r.symbol)
 
-abbrev pub symbol_name : Object → Reloc → Name
-symbol_name o r = option_map_or (λ (y : Symbol). y.name) (slice_get o.symbols r.symbol) []
+abbrev pub symbol_name : Option Symbol → Name
+symbol_name None = []
+symbol_name (Some y) = y.name
+
+abbrev pub lacks_in : List Owned → Object → Option LiftFault
+lacks_in ds o = option_map (λ (r : Reloc). faults.Symbol faulty.UndefinedSymbol (symbol_name (slice_get o.symbols r.symbol))) (first_reloc (λ j. lacks_symbol ds o) 0 o.relocs)
 
 abbrev pub undefined_symbol : List Object → Option LiftFault
-undefined_symbol objects = each (λ (o : Object). option_map (λ r. faults.Symbol faulty.UndefinedSymbol (symbol_name o r)) (first_reloc (lacks_symbol objects o) 0 o.relocs)) objects
+undefined_symbol objects = each (lacks_in (definitions objects)) objects
+
+abbrev pub reserved_at : Object → Symbol → Option LiftFault
+reserved_at o y = fails (is_definition o y && is_reserved y.name) (of_symbol faulty.ReservedName y)
+
+abbrev pub reserved_in : Object → Option LiftFault
+reserved_in o = each (reserved_at o) o.symbols
 
 abbrev pub reserved_name : List Object → Option LiftFault
-reserved_name objects = each (λ (d : Owned). fails (is_reserved d.symbol.name) (of_symbol faulty.ReservedName d.symbol)) (definitions objects)
+reserved_name objects = each reserved_in objects
 
 abbrev pub is_entry : Name → Object → Symbol → Bool
-is_entry entry o y = y.global && (is_function o y && same entry y.name)
+is_entry entry o y = y.global && is_function o y && same entry y.name
 
 -- the functions of the entry's name
 abbrev pub entries : List Object → Name → List Owned
@@ -113,15 +124,18 @@ lacks_quad (Some t) y = not (y.value % QUAD_SIZE == 0) || nat_lt t.size (y.value
 abbrev pub is_misplaced_ear : Object → Symbol → Bool
 is_misplaced_ear o y = is_ear o y && lacks_quad (section_in o.sections y.place) y
 
--- the symbols that fail a test, each at its place
-abbrev pub each_symbol : (Object → Symbol → Bool) → ℕ → Object → Option LiftFault
-each_symbol p k o = each (λ (y : Symbol). fails (p o y) (site faulty.Misaligned k (section_in o.sections y.place) y.value)) o.symbols
+-- a symbol that fails a test
+abbrev pub misaligned_at : (Object → Symbol → Bool) → ℕ → Object → Symbol → Option LiftFault
+misaligned_at p k o y = fails (p o y) (site faulty.Misaligned k (section_in o.sections y.place) y.value)
+
+abbrev pub misaligned_section : ℕ → Section → Option LiftFault
+misaligned_section k t = fails (is_misaligned t) (site faulty.Misaligned k (Some t) 0)
 
 abbrev pub misaligned_in : ℕ → Object → Option LiftFault
 misaligned_in k o =
-    each (λ (t : Section). fails (is_misaligned t) (site faulty.Misaligned k (Some t) 0)) o.sections
-    then_check each_symbol is_misplaced_function k o
-    then_check each_symbol is_misplaced_ear k o
+    each (misaligned_section k) o.sections
+    then_check each (misaligned_at is_misplaced_function k o) o.symbols
+    then_check each (misaligned_at is_misplaced_ear k o) o.symbols
 
 abbrev pub misaligned : List Object → Option LiftFault
 misaligned objects = each_from misaligned_in 0 objects
@@ -144,11 +158,11 @@ function_overlap objects = each_code_word overlap_at objects
 
 -- ---- words and relocations: L8 to L13
 
-abbrev pub unknown_at : ℕ → Extent → ℕ → Option LiftFault
-unknown_at f e i = fails (is_none (decoded (word_of e i))) (at_word faulty.UnknownInstruction e i)
+abbrev pub unknown_at : Extent → ℕ → Option LiftFault
+unknown_at e i = fails (is_none (decoded (word_of e i))) (at_word faulty.UnknownInstruction e i)
 
 abbrev pub unknown_instruction : List Object → Option LiftFault
-unknown_instruction objects = each_function_word unknown_at objects
+unknown_instruction objects = each_function_word (λ f. unknown_at) objects
 
 -- the first, by place, of the relocations that fail a test and are not on a hint
 abbrev pub each_reloc : LiftKind → (ℕ → Object → ℕ → Reloc → Bool) → List Object → Option LiftFault
@@ -159,7 +173,7 @@ abbrev pub is_first_at : Object → ℕ → Reloc → Bool
 is_first_at o j r = option_map_or (λ i. i == j) (position (stands_at r.section r.offset) o.relocs) false
 
 abbrev pub is_bad : ℕ → Object → ℕ → Reloc → Bool
-is_bad k o j r = not (is_first_at o j r) || (is_none (slice_get o.symbols r.symbol) || not (fits_section r (slice_get o.sections r.section)))
+is_bad k o j r = not (is_first_at o j r) || is_none (slice_get o.symbols r.symbol) || not (fits_section r (slice_get o.sections r.section))
 
 abbrev pub bad_relocation : List Object → Option LiftFault
 bad_relocation objects = each_reloc faulty.BadRelocation is_bad objects
@@ -181,7 +195,7 @@ moves_function addend (Some d) = is_function_kind d.symbol.kind && not (is_zero 
 
 abbrev pub has_addend : List Object → ℕ → Object → ℕ → Reloc → Bool
 has_addend objects k o j r =
-    moves_function r.addend (symbol_of objects k o r) || (is_in_code (named_by objects k o r) && is_none (place_of objects (named_by objects k o r)))
+    moves_function r.addend (symbol_of (definitions objects) k o r) || (is_in_code (named_by objects k o r) && is_none (place_of objects (named_by objects k o r)))
 
 abbrev pub code_addend : List Object → Option LiftFault
 code_addend objects = each_reloc faulty.CodeAddend (has_addend objects) objects
@@ -191,11 +205,14 @@ is_call kind.Call = true
 is_call kind.PointerCall = true
 is_call _ = false
 
-abbrev pub links_at : ℕ → Extent → ℕ → Option LiftFault
-links_at f e i = fails (is_call (row_of (read e i).op).kind && not ((read e i).rt == 0)) (at_word faulty.LinkRegister e i)
+abbrev pub links : Extent → ℕ → Bool
+links e i = is_call (row_of (read e i).op).kind && not ((read e i).rt == 0)
+
+abbrev pub links_at : Extent → ℕ → Option LiftFault
+links_at e i = fails (links e i) (at_word faulty.LinkRegister e i)
 
 abbrev pub link_register : List Object → Option LiftFault
-link_register objects = each_function_word links_at objects
+link_register objects = each_function_word (λ f. links_at) objects
 
 abbrev pub is_access : Kind → Bool
 is_access kind.Load = true
@@ -206,11 +223,11 @@ abbrev pub is_code_or_own : List Object → Extent → Inst → Option Reloc →
 is_code_or_own objects e x None = is_relative x.op
 is_code_or_own objects e x (Some r) = is_in_code (named_by objects e.number e.object r)
 
-abbrev pub reads_at : List Object → ℕ → Extent → ℕ → Option LiftFault
-reads_at objects f e i = fails (is_access (row_of (read e i).op).kind && is_code_or_own objects e (read e i) (reloc_of e i)) (at_word faulty.ReadsCode e i)
+abbrev pub reads_at : List Object → Extent → ℕ → Option LiftFault
+reads_at objects e i = fails (is_access (row_of (read e i).op).kind && is_code_or_own objects e (read e i) (reloc_of e i)) (at_word faulty.ReadsCode e i)
 
 abbrev pub reads_code : List Object → Option LiftFault
-reads_code objects = each_function_word (reads_at objects) objects
+reads_code objects = each_function_word (λ f. reads_at objects) objects
 
 -- ---- the least, L1 to L13
 

@@ -22,12 +22,13 @@ use Rattle.spu_lift.specs.declared.program.Part.{Part}
 use Rattle.spu_lift.specs.declared.program.Ear.{Ear}
 use Rattle.spu_lift.specs.declared.program.Global_.{Global_}
 use Rattle.spu_lift.specs.declared.program.Prog.{Prog}
+use Rattle.spu_lift.specs.declared.extents.Place.{Place}
 use Rattle.spu_lift.specs.declared.targets.Target.{Target}
 use Rattle.spu_lift.specs.declared.targets.Target.TheVariants as targets
 use Rattle.spu_lift.specs.StartCode.{start_code}
 use Rattle.spu_lift.specs.Symbols.{Name, is_code, is_ear, is_global_data, Owned, owned, symbols_that}
 use Rattle.spu_lift.specs.Addresses.{is_kept_code, code_number, data_address, data_end, all_sections, sections_of}
-use Rattle.spu_lift.specs.Functions.{Extent, functions, length_of, Place, place_at}
+use Rattle.spu_lift.specs.Functions.{Extent, functions, length_of, place_at}
 use Rattle.spu_lift.specs.Words.{instructions, label_of, named_by, reloc_at, place_of}
 use Rattle.spu_lift.specs.LiftFaults.{lift_fault, entries}
 

@@ -58,7 +58,7 @@ is_within (Some t) end = is_code t && nat_le end t.size
 
 -- a function has a nonzero size and lies in a section of code
 abbrev pub is_function : Object → Symbol → Bool
-is_function o y = is_function_kind y.kind && (not (y.size == 0) && is_within (section_in o.sections y.place) (y.value + y.size))
+is_function o y = is_function_kind y.kind && not (y.size == 0) && is_within (section_in o.sections y.place) (y.value + y.size)
 
 abbrev pub is_definition : Object → Symbol → Bool
 is_definition o y = y.global && not (is_undefined y.place)
@@ -78,10 +78,10 @@ is_in_toe (Some t) = not (is_code t) && same t.name (codes ".toe")
 
 -- a global symbol in data named `.toe` whose name is `_EAR_` and at least one byte more
 abbrev pub is_ear : Object → Symbol → Bool
-is_ear o y = y.global && (is_in_toe (section_in o.sections y.place) && (nat_lt 5 (length y.name) && starts_with nat_eq y.name (codes "_EAR_")))
+is_ear o y = y.global && is_in_toe (section_in o.sections y.place) && nat_lt 5 (length y.name) && starts_with nat_eq y.name (codes "_EAR_")
 
 abbrev pub is_reserved : Name → Bool
-is_reserved name = same name (codes "_start") || (same name (codes "__image_ea") || starts_with nat_eq name (codes "__stack_"))
+is_reserved name = same name (codes "_start") || same name (codes "__image_ea") || starts_with nat_eq name (codes "__stack_")
 
 -- ---- symbols of all objects
 
@@ -93,10 +93,14 @@ pub record Owned : Type 0 where
 abbrev pub owned : ℕ → Symbol → Owned
 owned k y = record { object = k; symbol = y }
 
--- those that pass a test, in order of objects, numbered from k on, and of symbols
+-- those of some symbols of object k that pass a test
+abbrev pub chosen : (Object → Symbol → Bool) → ℕ → Object → List Symbol → List Owned
+chosen p k o ys = map (owned k) (filter (p o) ys)
+
+-- those of all objects, numbered from k on
 abbrev pub symbols_that : (Object → Symbol → Bool) → ℕ → List Object → List Owned
 symbols_that p k [] = []
-symbols_that p k (o ∷ os) = map (owned k) (filter (p o) o.symbols) ++ symbols_that p (k + 1) os
+symbols_that p k (o ∷ os) = chosen p k o o.symbols ++ symbols_that p (k + 1) os
 
 abbrev pub definitions : List Object → List Owned
 definitions objects = symbols_that is_definition 0 objects
@@ -110,5 +114,6 @@ abbrev pub stands_for : ℕ → Symbol → Option Owned → Owned
 stands_for k y None = owned k y
 stands_for k y (Some d) = d
 
-abbrev pub resolved : List Object → ℕ → Symbol → Owned
-resolved objects k y = stands_for k y (if is_undefined y.place then named y.name (definitions objects) else None)
+-- ds are the definitions of all objects
+abbrev pub resolved : List Owned → ℕ → Symbol → Owned
+resolved ds k y = stands_for k y (if is_undefined y.place then named y.name ds else None)

@@ -11,11 +11,11 @@ use Rattle.spu_isa.specs.declared.operation.Op.TheVariants as op
 use Rattle.spu_isa.specs.declared.operation.Kind.{Kind}
 use Rattle.spu_isa.specs.declared.operation.Kind.TheVariants as kind
 use Rattle.spu_isa.specs.declared.instruction.Inst.{Inst}
-use Rattle.spu_isa.specs.declared.operation.Layout.{Layout}
-use Rattle.spu_isa.specs.declared.operation.Layout.TheVariants as layout
-use Rattle.spu_isa.specs.Table.{row_of}
+use Rattle.spu_isa.specs.declared.operation.Format.{Format}
+use Rattle.spu_isa.specs.declared.operation.Format.TheVariants as format
+use Rattle.spu_isa.specs.Table.{row_of, format_of}
 use Rattle.spu_isa.specs.Decoding.{decoded}
-use Rattle.spu_reloc.specs.Fields.{number_of, kind_on, fits_on}
+use Rattle.spu_reloc.specs.Fields.{number_of, fits_on}
 use Rattle.spu_reloc.specs.declared.field.RelocKind.{RelocKind}
 use Rattle.spu_reloc.specs.declared.field.RelocKind.TheVariants as relocs
 use Rattle.spu_elf.specs.declared.objects.SymPlace.{SymPlace}
@@ -29,11 +29,12 @@ use Rattle.spu_lift.specs.declared.program.Label.TheVariants as label
 use Rattle.spu_lift.specs.declared.program.Operand.{Operand}
 use Rattle.spu_lift.specs.declared.program.Operand.TheVariants as operand
 use Rattle.spu_lift.specs.declared.program.SymInst.{SymInst}
+use Rattle.spu_lift.specs.declared.extents.Place.{Place}
 use Rattle.spu_lift.specs.declared.targets.Target.{Target}
 use Rattle.spu_lift.specs.declared.targets.Target.TheVariants as targets
-use Rattle.spu_lift.specs.Symbols.{is_code, Owned, resolved}
+use Rattle.spu_lift.specs.Symbols.{is_code, Owned, definitions, resolved}
 use Rattle.spu_lift.specs.Addresses.{data_address, sections_of}
-use Rattle.spu_lift.specs.Functions.{Extent, Place, length_of, place_at}
+use Rattle.spu_lift.specs.Functions.{Extent, length_of, place_at}
 
 -- ---- instructions
 
@@ -41,13 +42,12 @@ use Rattle.spu_lift.specs.Functions.{Extent, Place, length_of, place_at}
 abbrev pub instruction_at : Section → ℕ → Option Inst
 instruction_at t at = if is_code t && (at % WORD_SIZE == 0) then decoded (be_number t.bytes at) else None
 
-abbrev pub is_hint_layout : Layout → Bool
-is_hint_layout layout.HintA = true
-is_hint_layout layout.HintB = true
-is_hint_layout _ = false
+abbrev pub is_hint_format : Format → Bool
+is_hint_format format.Hint = true
+is_hint_format _ = false
 
 abbrev pub is_hint : Op → Bool
-is_hint o = is_hint_layout (row_of o).layout
+is_hint o = is_hint_format (format_of (row_of o).layout)
 
 abbrev pub lnop : Inst
 lnop = record { op = op.Lnop; rt = 0; ra = 0; rb = 0; rc = 0; imm = pos 0 }
@@ -72,7 +72,7 @@ read e i = unwrap_or (decoded (word_of e i)) lnop
 
 -- the first relocation at an offset of section s
 abbrev pub stands_at : ℕ → ℕ → Reloc → Bool
-stands_at s at r = (r.section == s) && (r.offset == at)
+stands_at s at r = (s == r.section) && (at == r.offset)
 
 abbrev pub reloc_at : Object → ℕ → ℕ → Option Reloc
 reloc_at o s at = find (stands_at s at) o.relocs
@@ -83,15 +83,28 @@ reloc_of e i = reloc_at e.object e.section (e.symbol.value + WORD_SIZE * i)
 abbrev pub is_on_hint : Object → Reloc → Bool
 is_on_hint o r = option_map_or (λ (x : Inst). is_hint x.op) (option_and_then (λ (t : Section). instruction_at t r.offset) (slice_get o.sections r.section)) false
 
--- whether the kind of a relocation is that of its instruction, or Addr32 in data
-abbrev pub fits_instruction : ℕ → Option Inst → Bool
-fits_instruction kind None = false
-fits_instruction kind (Some x) = (kind == number_of (kind_on x.op)) && fits_on (kind_on x.op) x.op
+-- the kind of a number
+abbrev pub all_kinds : List RelocKind
+all_kinds = relocs.Addr16 ∷ relocs.Addr16Hi ∷ relocs.Addr16Lo ∷ relocs.Addr18 ∷ relocs.Addr32 ∷ relocs.Rel16 ∷ []
+
+abbrev pub kind_numbered : ℕ → Option RelocKind
+kind_numbered n = find (λ k. number_of k == n) all_kinds
+
+-- whether a kind is that of an instruction, or Addr32 in data
+abbrev pub fits_instruction : Option RelocKind → Option Inst → Bool
+fits_instruction None x = false
+fits_instruction (Some kind) None = false
+fits_instruction (Some kind) (Some x) = fits_on kind x.op
+
+abbrev pub fits_data : Option RelocKind → Bool
+fits_data None = false
+fits_data (Some relocs.Addr32) = true
+fits_data (Some _) = false
 
 abbrev pub fits_section : Reloc → Option Section → Bool
 fits_section r None = false
 fits_section r (Some t) =
-    (r.offset % WORD_SIZE == 0) && (nat_le (r.offset + WORD_SIZE) (length t.bytes) && (if is_code t then fits_instruction r.kind (instruction_at t r.offset) else r.kind == number_of relocs.Addr32))
+    (r.offset % WORD_SIZE == 0) && nat_le (r.offset + WORD_SIZE) (length t.bytes) && (if is_code t then fits_instruction (kind_numbered r.kind) (instruction_at t r.offset) else fits_data (kind_numbered r.kind))
 
 -- ---- targets
 
@@ -114,11 +127,11 @@ abbrev pub target_of : List Object → Owned → ℤ → Target
 target_of objects d addend = target_by objects d.object (moved d.symbol.value addend) d.symbol.place
 
 -- what the symbol of a relocation of object k stands for
-abbrev pub symbol_of : List Object → ℕ → Object → Reloc → Option Owned
-symbol_of objects k o r = option_map (resolved objects k) (slice_get o.symbols r.symbol)
+abbrev pub symbol_of : List Owned → ℕ → Object → Reloc → Option Owned
+symbol_of ds k o r = option_map (resolved ds k) (slice_get o.symbols r.symbol)
 
 abbrev pub named_by : List Object → ℕ → Object → Reloc → Target
-named_by objects k o r = option_map_or (λ (d : Owned). target_of objects d r.addend) (symbol_of objects k o r) (targets.Number 0)
+named_by objects k o r = option_map_or (λ (d : Owned). target_of objects d r.addend) (symbol_of (definitions objects) k o r) (targets.Number 0)
 
 -- ---- operands
 
@@ -140,10 +153,10 @@ is_direct _ = false
 
 -- whether an instruction has an absolute address, or the distance to one
 abbrev pub is_absolute : Op → Bool
-is_absolute o = number_of (kind_on o) == number_of relocs.Addr16
+is_absolute o = fits_on relocs.Addr16 o
 
 abbrev pub is_relative : Op → Bool
-is_relative o = number_of (kind_on o) == number_of relocs.Rel16
+is_relative o = fits_on relocs.Rel16 o
 
 -- where a direct branch or call goes: as its relocation says, else by its own distance
 abbrev pub destination : List Object → Extent → ℕ → Inst → Option Reloc → Option Place

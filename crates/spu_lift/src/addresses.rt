@@ -84,7 +84,7 @@ pub struct Addresses {
 
 impl Addresses {
     /// Those of some objects.
-    pub fn new(alloc: Global, objects: &Seq<Object>) -> Result<Addresses, OutOfMemory> {
+    pub fn new(alloc: Global, objects: &[Object]) -> Result<Addresses, OutOfMemory> {
         let mut cursor = Cursor {
             end: u64::from(DATA_START),
             code: 0,
@@ -194,7 +194,7 @@ fn check_ears(alloc: Global, k: usize, o: &Object) -> Result<(), LiftFault> {
 }
 
 /// L5.
-pub fn check_alignment(alloc: Global, objects: &Seq<Object>) -> Result<(), LiftFault> {
+pub fn check_alignment(alloc: Global, objects: &[Object]) -> Result<(), LiftFault> {
     for (k, o) in objects.iter().enumerate() {
         check_sections(alloc, k, o)?;
         check_functions(alloc, k, o)?;

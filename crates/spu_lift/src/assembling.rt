@@ -1,12 +1,10 @@
 //! Programs, put together.
 
 use crate::addresses::is_kept_code;
-use crate::extents::Extent;
+use crate::extents::FunctionRef;
 use crate::first::start_code;
-use crate::program::{
-    CodeSection, Ear, Function, Global_, Label, Operand, Part, Prog, WordLabel,
-};
-use crate::symbols::{Owned, is_code, is_ear, is_global_data};
+use crate::program::{CodeSection, Ear, Function, Global_, Label, Operand, Part, Prog, WordLabel};
+use crate::symbols::{SymbolRef, is_code, is_ear, is_global_data};
 use crate::targets::Target;
 use crate::words::{Context, label_of};
 use spu_elf::{Object, Section, SymPlace, Symbol};
@@ -55,7 +53,7 @@ fn no_flags(alloc: Global, n: usize) -> Result<Vec<bool>, OutOfMemory> {
 
 impl Taken {
     /// Nothing of some functions is taken.
-    fn new(alloc: Global, functions: &Seq<Extent<'_>>) -> Result<Taken, OutOfMemory> {
+    fn new(alloc: Global, functions: &Seq<FunctionRef<'_>>) -> Result<Taken, OutOfMemory> {
         let mut words = Vec::new(alloc);
         for e in functions {
             words.push(no_flags(alloc, e.len() as usize)?)?;
@@ -110,7 +108,7 @@ impl PartDraft {
     /// Adds what a target puts at a word of data.
     fn write(
         &mut self,
-        context: &Context<'_>,
+        context: &Context<'_, '_>,
         offset: u32,
         target: Target,
     ) -> Result<(), OutOfMemory> {
@@ -134,7 +132,7 @@ impl PartDraft {
     }
 }
 
-impl<'a> Context<'a> {
+impl<'b, 'a> Context<'b, 'a> {
     /// The words of data of section s of object k.
     fn part_draft(
         &self,
@@ -155,7 +153,7 @@ impl<'a> Context<'a> {
             let offset = u32::try_from(at).ok().ok_or(OutOfMemory)?;
             match self.reloc_at(k, o, s, offset) {
                 None => draft.bytes.extend(&bytes[at..at + WORD_SIZE as usize])?,
-                Some(r) => draft.write(self, offset, self.names.named_by(k, o, r))?,
+                Some(r) => draft.write(self, offset, self.references.named_by(k, o, r))?,
             }
         }
         draft.bytes.extend(&bytes[whole * WORD_SIZE as usize..])?;
@@ -173,7 +171,7 @@ impl<'a> Context<'a> {
     ) -> Result<Part, OutOfMemory> {
         let draft = self.part_draft(alloc, k, o, s, t)?;
         Ok(Part {
-            address: self.names.addresses.address(k, s as usize),
+            address: self.references.addresses.address(k, s as usize),
             size: t.size,
             bytes: draft.bytes,
             labels: draft.labels,
@@ -200,14 +198,14 @@ impl<'a> Context<'a> {
     /// The sections of data.
     fn parts(&self, alloc: Global) -> Result<Seq<Part>, OutOfMemory> {
         let mut parts = Seq::new(alloc);
-        for (k, o) in self.names.objects.iter().enumerate() {
+        for (k, o) in self.references.objects.iter().enumerate() {
             self.add_parts(alloc, &mut parts, k, o)?;
         }
         Ok(parts)
     }
 
     /// Takes the addresses in the code of function f.
-    fn take_operands(&self, taken: &mut Taken, f: u32, e: &Extent<'a>) {
+    fn take_operands(&self, taken: &mut Taken, f: u32, e: &FunctionRef<'a>) {
         for i in 0..e.len() {
             taken.take_operand(self.operand_of(f, e, i));
         }
@@ -232,7 +230,7 @@ impl<'a> Context<'a> {
         match y.place {
             SymPlace::Undefined | SymPlace::Absolute => u64::from(y.value),
             SymPlace::Inside(s) => self
-                .names
+                .references
                 .addresses
                 .address(k, s as usize)
                 .saturating_add(u64::from(y.value)),
@@ -240,7 +238,7 @@ impl<'a> Context<'a> {
     }
 
     /// The function at the place of a symbol.
-    fn function_of(&self, d: Owned<'a>) -> u32 {
+    fn function_of(&self, d: SymbolRef<'a>) -> u32 {
         match d.symbol.place {
             SymPlace::Undefined | SymPlace::Absolute => 0,
             SymPlace::Inside(s) => match self.code.place_at(d.object, s, d.symbol.value) {
@@ -253,7 +251,7 @@ impl<'a> Context<'a> {
     /// The entries that are filled with areas.
     fn ears(&self, alloc: Global) -> Result<Seq<Ear>, OutOfMemory> {
         let mut ears = Seq::new(alloc);
-        for (k, o) in self.names.objects.iter().enumerate() {
+        for (k, o) in self.references.objects.iter().enumerate() {
             for y in &o.symbols {
                 if is_ear(o, y) {
                     ears.push(Ear {
@@ -269,7 +267,7 @@ impl<'a> Context<'a> {
     /// The global symbols in data.
     fn globals(&self, alloc: Global) -> Result<Seq<Global_>, OutOfMemory> {
         let mut globals = Seq::new(alloc);
-        for (k, o) in self.names.objects.iter().enumerate() {
+        for (k, o) in self.references.objects.iter().enumerate() {
             for y in &o.symbols {
                 if is_global_data(o, y) {
                     globals.push(Global_ {
@@ -286,7 +284,7 @@ impl<'a> Context<'a> {
     /// The sections of code that aren't empty.
     fn code_sections(&self, alloc: Global) -> Result<Seq<CodeSection>, OutOfMemory> {
         let mut all = Seq::new(alloc);
-        for o in self.names.objects {
+        for o in self.references.objects {
             for t in &o.sections {
                 if is_kept_code(t) {
                     all.push(CodeSection {
@@ -313,12 +311,12 @@ impl<'a> Context<'a> {
         alloc: Global,
         taken: &Taken,
         f: u32,
-        e: &Extent<'a>,
+        e: &FunctionRef<'a>,
     ) -> Result<Function, OutOfMemory> {
         Ok(Function {
             name: Seq::copied(alloc, e.symbol.name.as_slice())?,
             global: e.symbol.global,
-            section: self.names.addresses.code(e.number, e.section as usize),
+            section: self.references.addresses.code(e.number, e.section as usize),
             offset: e.symbol.value,
             code: self.instructions(alloc, f, e)?,
             taken: taken.words_of(alloc, f)?,
@@ -343,9 +341,9 @@ impl<'a> Context<'a> {
     }
 
     /// The program, whose entry is at this symbol.
-    pub fn program(&self, alloc: Global, start: Owned<'a>) -> Result<Prog, OutOfMemory> {
+    pub fn program(&self, alloc: Global, start: SymbolRef<'a>) -> Result<Prog, OutOfMemory> {
         let entry = self.function_of(start);
-        let data_end = self.names.addresses.end;
+        let data_end = self.references.addresses.end;
         let parts = self.parts(alloc)?;
         let taken = self.taken(alloc, &parts)?;
         let start = start_code(alloc, (data_end % (1 << 32)) as u32, entry)?;

@@ -1,5 +1,8 @@
 //! The functions of objects, in order of objects, sections and offsets, and the words that they cover.
 
+ghost use Rattle.std.specs.Prelude.{◌≡◌, ◌+◌, ◌*◌, ◌<◌, ◌≤◌, ◌^◌};
+ghost use Rattle.spu_word.specs.declared.limits.TheConstants.{WORD_SIZE};
+
 use crate::faults::{LiftFault, LiftKind, site_fault};
 use crate::symbols::{is_code, is_function};
 use crate::targets::Target;
@@ -45,7 +48,7 @@ type Starts<'a> = Vec<Vec<Option<Start<'a>>>>;
 fn no_starts<'a>(alloc: Global, t: &Section) -> Result<Vec<Option<Start<'a>>>, OutOfMemory> {
     let mut row = Vec::new(alloc);
     if is_code(t) {
-        row.resize((t.size / WORD_SIZE) as usize, None)?;
+        row.resize(word_count(t) as usize, None)?;
     }
     Ok(row)
 }
@@ -78,11 +81,26 @@ fn starts<'a>(alloc: Global, o: &'a Object) -> Result<Starts<'a>, OutOfMemory> {
     Ok(rows)
 }
 
+/// How many words a section of code has; data has none.
+fn word_count(t: &Section) -> u32
+    ensures small { WORD_SIZE * result ≤ t.now.size }
+{
+    if is_code(t) { t.size / WORD_SIZE } else { 0 }
+}
+
+/// What starts at a word of a section.
+fn start_at<'a>(row: &[Option<Start<'a>>], i: u32) -> Option<Start<'a>> {
+    match row.get(i as usize) {
+        None => None,
+        Some(start) => *start,
+    }
+}
+
 /// How far the functions reach, those that start at offset `at` among them.
-fn reach(old: u64, at: u64, start: Option<Start<'_>>) -> u64 {
+fn reach(old: u64, at: u32, start: Option<Start<'_>>) -> u64 {
     match start {
         None => old,
-        Some(start) => old.max(at + u64::from(start.longest)),
+        Some(start) => old.max(u64::from(at) + u64::from(start.longest)),
     }
 }
 
@@ -94,16 +112,16 @@ fn check_outside_in(
     row: &[Option<Start<'_>>],
 ) -> Result<(), LiftFault> {
     let mut end = 0;
-    for i in 0..row.len() {
-        let at = i as u64 * u64::from(WORD_SIZE);
-        end = reach(end, at, row[i]);
-        if end <= at && !is_filler(word_at(t.bytes.as_slice(), at as usize)) {
+    for i in 0..word_count(t) {
+        let at = WORD_SIZE * i;
+        end = reach(end, at, start_at(row, i));
+        if end <= u64::from(at) && !is_filler(word_at(t.bytes.as_slice(), at as usize)) {
             return site_fault(
                 alloc,
                 LiftKind::CodeOutsideFunction,
                 k,
                 t.name.as_slice(),
-                at as u32,
+                at,
             );
         }
     }
@@ -111,10 +129,10 @@ fn check_outside_in(
 }
 
 /// Whether a function that starts at offset `at` shares it with one of another extent.
-fn is_shared(end: u64, at: u64, start: Option<Start<'_>>) -> bool {
+fn is_shared(end: u64, at: u32, start: Option<Start<'_>>) -> bool {
     match start {
         None => false,
-        Some(start) => at < end || start.shortest != start.longest,
+        Some(start) => u64::from(at) < end || start.shortest != start.longest,
     }
 }
 
@@ -126,18 +144,13 @@ fn check_overlap_in(
     row: &[Option<Start<'_>>],
 ) -> Result<(), LiftFault> {
     let mut end = 0;
-    for i in 0..row.len() {
-        let at = i as u64 * u64::from(WORD_SIZE);
-        if is_shared(end, at, row[i]) {
-            return site_fault(
-                alloc,
-                LiftKind::FunctionOverlap,
-                k,
-                t.name.as_slice(),
-                at as u32,
-            );
+    for i in 0..word_count(t) {
+        let at = WORD_SIZE * i;
+        let start = start_at(row, i);
+        if is_shared(end, at, start) {
+            return site_fault(alloc, LiftKind::FunctionOverlap, k, t.name.as_slice(), at);
         }
-        end = reach(end, at, row[i]);
+        end = reach(end, at, start);
     }
     Ok(())
 }
@@ -154,7 +167,7 @@ fn check_outside_of(alloc: Global, k: usize, o: &Object) -> Result<(), LiftFault
 }
 
 /// L6.
-pub fn check_outside(alloc: Global, objects: &Seq<Object>) -> Result<(), LiftFault> {
+pub fn check_outside(alloc: Global, objects: &[Object]) -> Result<(), LiftFault> {
     for (k, o) in objects.iter().enumerate() {
         check_outside_of(alloc, k, o)?;
     }
@@ -173,7 +186,7 @@ fn check_overlap_of(alloc: Global, k: usize, o: &Object) -> Result<(), LiftFault
 }
 
 /// L7.
-pub fn check_overlap(alloc: Global, objects: &Seq<Object>) -> Result<(), LiftFault> {
+pub fn check_overlap(alloc: Global, objects: &[Object]) -> Result<(), LiftFault> {
     for (k, o) in objects.iter().enumerate() {
         check_overlap_of(alloc, k, o)?;
     }
@@ -182,17 +195,23 @@ pub fn check_overlap(alloc: Global, objects: &Seq<Object>) -> Result<(), LiftFau
 
 /// A function: its object and section, with their numbers, and the symbol that names it.
 #[derive(Clone, Copy)]
-pub struct Extent<'a> {
+pub struct FunctionRef<'a> {
     pub number: usize,
     pub object: &'a Object,
     pub section: u32,
     pub text: &'a Section,
     pub symbol: &'a Symbol,
+    pub ghost inside: { symbol.now.value + symbol.now.size < 2 ^ 32 },
 }
 
-impl<'a> Extent<'a> {
+impl<'a> FunctionRef<'a> {
+    ghost use Rattle.spu_lift.specs.Functions.{length_of};
+    ghost use Rattle.spu_lift.specs.Views.{extent_of};
+
     /// How many words it has.
-    pub fn len(&self) -> u32 {
+    pub fn len(&self) -> u32
+        ensures { result ≡ length_of (extent_of self.now) }
+    {
         self.symbol.size / WORD_SIZE
     }
 }
@@ -208,13 +227,14 @@ pub struct Place {
 /// that covers it, 0 where none does.
 #[derive(Drop)]
 pub struct CodeMap<'a> {
-    pub functions: Seq<Extent<'a>>,
+    pub functions: Seq<FunctionRef<'a>>,
     owners: Seq<Seq<Seq<u32>>>,
 }
 
 /// The numbers of the functions that cover the words of a section, whose first function has the number `next`.
 fn owners_in(
     alloc: Global,
+    t: &Section,
     row: &[Option<Start<'_>>],
     next: u32,
 ) -> Result<Seq<u32>, OutOfMemory> {
@@ -222,14 +242,15 @@ fn owners_in(
     let mut next = next;
     let mut owner = 0;
     let mut end = 0;
-    for i in 0..row.len() {
-        let at = i as u64 * u64::from(WORD_SIZE);
-        if row[i].is_some() {
+    for i in 0..word_count(t) {
+        let at = WORD_SIZE * i;
+        let start = start_at(row, i);
+        if start.is_some() {
             owner = next;
             next = next.checked_add(1).ok_or(OutOfMemory)?;
-            end = reach(0, at, row[i]);
+            end = reach(0, at, start);
         }
-        owners.push(if at < end { owner } else { 0 })?;
+        owners.push(if u64::from(at) < end { owner } else { 0 })?;
     }
     Ok(owners)
 }
@@ -244,9 +265,9 @@ impl<'a> CodeMap<'a> {
         t: &'a Section,
         row: &[Option<Start<'a>>],
     ) -> Result<(), OutOfMemory> {
-        for start in row {
-            if let Some(start) = start {
-                self.functions.push(Extent {
+        for i in 0..word_count(t) {
+            if let Some(start) = start_at(row, i) {
+                self.functions.push(FunctionRef {
                     number: k,
                     object: o,
                     section: s,
@@ -265,8 +286,10 @@ impl<'a> CodeMap<'a> {
         for (s, t) in o.sections.iter().enumerate() {
             if let Some(row) = rows.get(s) {
                 let section = u32::try_from(s).ok().ok_or(OutOfMemory)?;
-                let next = u32::try_from(self.functions.len() + 1).ok().ok_or(OutOfMemory)?;
-                owners.push(owners_in(alloc, row.as_slice(), next)?)?;
+                let next = u32::try_from(self.functions.len() + 1)
+                    .ok()
+                    .ok_or(OutOfMemory)?;
+                owners.push(owners_in(alloc, t, row.as_slice(), next)?)?;
                 self.add_functions(k, o, section, t, row.as_slice())?;
             }
         }
@@ -274,7 +297,7 @@ impl<'a> CodeMap<'a> {
     }
 
     /// The functions of some objects, of which none overlap.
-    pub fn new(alloc: Global, objects: &'a Seq<Object>) -> Result<CodeMap<'a>, OutOfMemory> {
+    pub fn new(alloc: Global, objects: &'a [Object]) -> Result<CodeMap<'a>, OutOfMemory> {
         let mut map = CodeMap {
             functions: Seq::new(alloc),
             owners: Seq::new(alloc),

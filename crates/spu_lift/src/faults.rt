@@ -46,7 +46,10 @@ pub enum LiftFault {
     /// L4.
     NoEntry,
     /// L1, L2 or L3: at a symbol of this name.
-    Symbol { kind: LiftKind, name: Name },
+    Symbol {
+        kind: LiftKind,
+        name: Name,
+    },
     /// L5, L6, L7, L9 or L11: at an offset of a section of this name, of the object with this number.
     Site {
         kind: LiftKind,

@@ -1,14 +1,22 @@
 //! The symbols that objects define, by name, and the faults of names.
 
+ghost use Rattle.std.specs.Prelude.{◌≡◌, option_map, slice_get};
+ghost use Rattle.std.specs.Option.{option_copied};
+ghost use Rattle.spu_elf.specs.declared.objects.Object.{Object};
+ghost use Rattle.spu_lift.specs.LiftChecks.{Names};
+ghost use Rattle.spu_lift.specs.Symbols.{owned, same, is_code, is_function_kind, is_undefined, section_in, is_within, is_function, is_definition, is_in_toe, is_ear, is_data, is_global_data, is_reserved, chosen};
+ghost use Rattle.spu_lift.specs.LiftFaults.{reserved_in, reserved_name, entries, symbol_name, is_entry};
+ghost use Rattle.spu_lift.specs.Views.{owned_of};
+
 use crate::faults::{LiftFault, LiftKind, symbol_fault};
-use crate::relocations::{earlier, is_on_hint};
-use indexmap::IndexMap;
-use spu_elf::{Object, Reloc, SecKind, Section, SymKind, SymPlace, Symbol, is_same};
-use spu_word::{OutOfMemory, Seq};
+use spu_elf::{Object, SecKind, Section, SymKind, SymPlace, Symbol};
+use spu_word::Seq;
 use std::alloc::Global;
 
 /// Whether a section holds instructions.
-pub fn is_code(t: &Section) -> bool {
+pub fn is_code(t: &Section) -> bool
+    ensures { result ≡ is_code t.now }
+{
     match t.kind {
         SecKind::Code => true,
         SecKind::Const | SecKind::Vars | SecKind::Zero => false,
@@ -16,7 +24,9 @@ pub fn is_code(t: &Section) -> bool {
 }
 
 /// Whether a symbol names code that is called.
-pub fn is_function_kind(kind: SymKind) -> bool {
+pub fn is_function_kind(kind: SymKind) -> bool
+    ensures { result ≡ is_function_kind kind }
+{
     match kind {
         SymKind::Function => true,
         SymKind::Plain | SymKind::Object | SymKind::Section => false,
@@ -24,7 +34,9 @@ pub fn is_function_kind(kind: SymKind) -> bool {
 }
 
 /// Whether a symbol is in another object.
-pub fn is_undefined(place: SymPlace) -> bool {
+pub fn is_undefined(place: SymPlace) -> bool
+    ensures { result ≡ is_undefined place }
+{
     match place {
         SymPlace::Undefined => true,
         SymPlace::Absolute | SymPlace::Inside(_) => false,
@@ -32,7 +44,9 @@ pub fn is_undefined(place: SymPlace) -> bool {
 }
 
 /// The section that a symbol is in.
-pub fn section_in(sections: &Seq<Section>, place: SymPlace) -> Option<&Section> {
+pub fn section_in(sections: &Seq<Section>, place: SymPlace) -> Option<&Section>
+    ensures { option_copied result ≡ section_in sections.now place }
+{
     match place {
         SymPlace::Undefined | SymPlace::Absolute => None,
         SymPlace::Inside(s) => sections.get(s as usize),
@@ -40,7 +54,9 @@ pub fn section_in(sections: &Seq<Section>, place: SymPlace) -> Option<&Section> 
 }
 
 /// Whether a place up to `end` lies in a section of code.
-fn is_within(section: Option<&Section>, end: u64) -> bool {
+fn is_within(section: Option<&Section>, end: u64) -> bool
+    ensures { result ≡ is_within (option_copied section.entry) end }
+{
     match section {
         None => false,
         Some(t) => is_code(t) && end <= u64::from(t.size),
@@ -48,7 +64,9 @@ fn is_within(section: Option<&Section>, end: u64) -> bool {
 }
 
 /// Whether a symbol is a function: of nonzero size, in a section of code.
-pub fn is_function(o: &Object, y: &Symbol) -> bool {
+pub fn is_function(o: &Object, y: &Symbol) -> bool
+    ensures { result ≡ is_function o.now y.now }
+{
     is_function_kind(y.kind)
         && y.size != 0
         && is_within(
@@ -58,20 +76,26 @@ pub fn is_function(o: &Object, y: &Symbol) -> bool {
 }
 
 /// Whether a symbol is defined for all objects.
-fn is_definition(y: &Symbol) -> bool {
+pub fn is_definition(y: &Symbol) -> bool
+    ensures { (o : Object) → result ≡ is_definition o y.now }
+{
     y.global && !is_undefined(y.place)
 }
 
 /// Whether a symbol in this section is in data named `.toe`.
-fn is_in_toe(section: Option<&Section>) -> bool {
+fn is_in_toe(section: Option<&Section>) -> bool
+    ensures { result ≡ is_in_toe (option_copied section.entry) }
+{
     match section {
         None => false,
-        Some(t) => !is_code(t) && is_same(t.name.as_slice(), b".toe"),
+        Some(t) => !is_code(t) && same(t.name.as_slice(), b".toe"),
     }
 }
 
 /// Whether a symbol is an entry that is filled with a named area's address.
-pub fn is_ear(o: &Object, y: &Symbol) -> bool {
+pub fn is_ear(o: &Object, y: &Symbol) -> bool
+    ensures { result ≡ is_ear o.now y.now }
+{
     y.global
         && is_in_toe(section_in(&o.sections, y.place))
         && y.name.len() > 5
@@ -79,7 +103,9 @@ pub fn is_ear(o: &Object, y: &Symbol) -> bool {
 }
 
 /// Whether a symbol in this section is in data.
-fn is_data(section: Option<&Section>) -> bool {
+fn is_data(section: Option<&Section>) -> bool
+    ensures { result ≡ is_data (option_copied section.entry) }
+{
     match section {
         None => false,
         Some(t) => !is_code(t),
@@ -87,144 +113,49 @@ fn is_data(section: Option<&Section>) -> bool {
 }
 
 /// Whether a symbol is global and in data.
-pub fn is_global_data(o: &Object, y: &Symbol) -> bool {
+pub fn is_global_data(o: &Object, y: &Symbol) -> bool
+    ensures { result ≡ is_global_data o.now y.now }
+{
     y.global && is_data(section_in(&o.sections, y.place))
 }
 
+/// Whether two names are equal.
+pub fn same(a: &[u8], b: &[u8]) -> bool
+    ensures { result ≡ same a.now b.now }
+{
+    a == b
+}
+
 /// Whether a name is given by the link.
-fn is_reserved(name: &[u8]) -> bool {
-    is_same(name, b"_start") || is_same(name, b"__image_ea") || name.starts_with(b"__stack_")
+fn is_reserved(name: &[u8]) -> bool
+    ensures { result ≡ is_reserved name.now }
+{
+    same(name, b"_start") || same(name, b"__image_ea") || name.starts_with(b"__stack_")
 }
 
 /// A symbol, with the number of its object.
 #[derive(Clone, Copy)]
-pub struct Owned<'a> {
+pub struct SymbolRef<'a> {
     pub object: usize,
     pub symbol: &'a Symbol,
 }
 
-/// The definitions of all objects, by name.
-#[derive(Drop)]
-pub struct Definitions<'a> {
-    map: IndexMap<&'a [u8], Owned<'a>>,
-}
-
-impl<'a> Definitions<'a> {
-    /// The definition of a name.
-    pub fn get(&self, name: &[u8]) -> Option<Owned<'a>> {
-        match self.map.get(name) {
-            Some(d) => Some(*d),
-            None => None,
-        }
-    }
-
-    /// Adds a definition behind the others.
-    fn push(&mut self, d: Owned<'a>) -> Result<(), OutOfMemory> {
-        self.map.insert(d.symbol.name.as_slice(), d)?;
-        Ok(())
-    }
-
-    /// Adds a definition, unless its name is there.
-    fn add(&mut self, alloc: Global, d: Owned<'a>) -> Result<(), LiftFault> {
-        let name = d.symbol.name.as_slice();
-        if self.get(name).is_some() {
-            return symbol_fault(alloc, LiftKind::DuplicateSymbol, name);
-        }
-        self.push(d)?;
-        Ok(())
-    }
-
-    /// Adds the definitions of an object.
-    fn add_all(&mut self, alloc: Global, k: usize, o: &'a Object) -> Result<(), LiftFault> {
-        for y in &o.symbols {
-            if is_definition(y) {
-                self.add(
-                    alloc,
-                    Owned {
-                        object: k,
-                        symbol: y,
-                    },
-                )?;
-            }
-        }
-        Ok(())
-    }
-
-    /// The definitions of all objects, or L1.
-    pub fn new(alloc: Global, objects: &'a Seq<Object>) -> Result<Definitions<'a>, LiftFault> {
-        let mut all = Definitions {
-            map: IndexMap::new(alloc),
-        };
-        for (k, o) in objects.iter().enumerate() {
-            all.add_all(alloc, k, o)?;
-        }
-        Ok(all)
-    }
-
-    /// What a symbol of object k stands for: an undefined one for the definition of its name.
-    pub fn resolved(&self, k: usize, y: &'a Symbol) -> Owned<'a> {
-        if is_undefined(y.place)
-            && let Some(d) = self.get(y.name.as_slice())
-        {
-            return d;
-        }
-        Owned {
-            object: k,
-            symbol: y,
-        }
-    }
-
-    /// Whether a symbol is undefined, and no object defines it.
-    fn is_missing(&self, y: Option<&Symbol>) -> bool {
-        match y {
-            None => false,
-            Some(y) => is_undefined(y.place) && self.get(y.name.as_slice()).is_none(),
-        }
-    }
-
-    /// Whether a relocation that isn't on a hint names a symbol that no object defines.
-    fn lacks_symbol(&self, o: &Object, r: &Reloc) -> bool {
-        !is_on_hint(o, r) && self.is_missing(o.symbols.get(r.symbol as usize))
-    }
-
-    /// No relocation of an object lacks its symbol.
-    fn check_references_in(&self, alloc: Global, o: &Object) -> Result<(), LiftFault> {
-        let mut first = None;
-        for r in &o.relocs {
-            if self.lacks_symbol(o, r) {
-                first = earlier(first, r);
-            }
-        }
-        match first {
-            None => Ok(()),
-            Some(r) => symbol_fault(alloc, LiftKind::UndefinedSymbol, symbol_name(o, r)),
-        }
-    }
-
-    /// L2.
-    pub fn check_references(
-        &self,
-        alloc: Global,
-        objects: &Seq<Object>,
-    ) -> Result<(), LiftFault> {
-        for o in objects {
-            self.check_references_in(alloc, o)?;
-        }
-        Ok(())
-    }
-}
-
-/// The name of a relocation's symbol.
-fn symbol_name<'a>(o: &'a Object, r: &Reloc) -> &'a [u8] {
-    match o.symbols.get(r.symbol as usize) {
+/// The name of a symbol, if there is one.
+pub fn symbol_name<'a>(y: Option<&'a Symbol>) -> &'a [u8]
+    ensures { result.now ≡ symbol_name (option_copied y.entry) }
+{
+    match y {
         None => &[],
         Some(y) => y.name.as_slice(),
     }
 }
 
 /// No definition of an object has a reserved name.
-fn check_names_in(alloc: Global, o: &Object) -> Result<(), LiftFault> {
-    for y in &o.symbols {
+fn check_names_in(alloc: Global, o: &Object) -> Result<(), LiftFault>
+    ensures { Names result (reserved_in o.now) }
+{
+    let symbols = o.symbols.as_slice();
+    for y in symbols {
         if is_definition(y) && is_reserved(y.name.as_slice()) {
             return symbol_fault(alloc, LiftKind::ReservedName, y.name.as_slice());
         }
@@ -233,7 +164,9 @@ fn check_names_in(alloc: Global, o: &Object) -> Result<(), LiftFault> {
 }
 
 /// L3.
-pub fn check_names(alloc: Global, objects: &Seq<Object>) -> Result<(), LiftFault> {
+pub fn check_names(alloc: Global, objects: &[Object]) -> Result<(), LiftFault>
+    ensures { Names result (reserved_name objects.now) }
+{
     for o in objects {
         check_names_in(alloc, o)?;
     }
@@ -241,25 +174,35 @@ pub fn check_names(alloc: Global, objects: &Seq<Object>) -> Result<(), LiftFault
 }
 
 /// Whether a symbol is a global function of this name.
-fn is_entry(entry: &[u8], o: &Object, y: &Symbol) -> bool {
-    y.global && is_function(o, y) && is_same(entry, y.name.as_slice())
+fn is_entry(entry: &[u8], o: &Object, y: &Symbol) -> bool
+    ensures { result ≡ is_entry entry.now o.now y.now }
+{
+    y.global && is_function(o, y) && same(entry, y.name.as_slice())
 }
 
-/// The first global function of this name in an object.
-fn entry_in<'a>(entry: &[u8], o: &'a Object) -> Option<&'a Symbol> {
-    for y in &o.symbols {
+/// The first global function of this name in object k.
+fn entry_in<'a>(entry: &[u8], k: usize, o: &'a Object) -> Option<SymbolRef<'a>>
+    ensures { option_map owned_of result ≡ slice_get (chosen (is_entry entry.now) k o.now o.now.symbols) 0 }
+{
+    let symbols = o.symbols.as_slice();
+    for y in symbols {
         if is_entry(entry, o, y) {
-            return Some(y);
+            return Some(SymbolRef {
+                object: k,
+                symbol: y,
+            });
         }
     }
     None
 }
 
 /// The first global function of this name.
-pub fn entry_symbol<'a>(objects: &'a Seq<Object>, entry: &[u8]) -> Option<Owned<'a>> {
+pub fn entry_symbol<'a>(objects: &'a [Object], entry: &[u8]) -> Option<SymbolRef<'a>>
+    ensures { option_map owned_of result ≡ slice_get (entries objects.now entry.now) 0 }
+{
     for (k, o) in objects.iter().enumerate() {
-        if let Some(symbol) = entry_in(entry, o) {
-            return Some(Owned { object: k, symbol });
+        if let Some(d) = entry_in(entry, k, o) {
+            return Some(d);
         }
     }
     None
