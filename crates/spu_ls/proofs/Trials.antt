@@ -1,6 +1,6 @@
 -- Areas whose names are one letter, each the next.
 use Rattle.std.proofs.Common.{◌≡◌, ℕ, zero, suc, ◌+◌, List, [], ◌∷◌, ◌++◌, length, Option, Some, None, refl, sym, ap, ◌∙◌, subst, arith}
-use Rattle.std.specs.Prelude.{slice_get, Unit}
+use Rattle.std.specs.Prelude.{slice_get}
 use Rattle.spu_word.specs.declared.load.Area.{Area}
 use Rattle.spu_ls.specs.Loading.{AreDistinct}
 

@@ -34,7 +34,7 @@ fn words_of(alloc: Global, words: &[u32]) -> Result<Seq<u32>, OutOfMemory> {
 pub const IMAGE: u64 = 0x1_4000_0000;
 
 /// Areas `a`, `b` and so on, each with its effective address and bytes.
-#[tactic(auto, using(crate::proofs::Trials::lettered_distinct))]
+#[tactic(auto, using(crate::proofs::Trials::one_more, crate::proofs::Trials::lettered_distinct))]
 fn areas_of(alloc: Global, rows: &[(u64, &[u8])]) -> Result<Seq<Area>, OutOfMemory>
     requires { length rows.now ≤ MAX_AREAS }
     ensures distinct { IfOk result (λ areas. AreDistinct areas) }

@@ -413,6 +413,35 @@ mod tests {
         Ok(())
     }
 
+    // How many areas a request names; None of another action.
+    fn areas_of(request: &Request<'_>) -> Option<usize> {
+        match &request.action {
+            Action::Run(options) => Some(options.places.len()),
+            Action::Assemble | Action::Link => None,
+        }
+    }
+
+    // `run a`, with so many areas.
+    fn words_with_areas(alloc: Global, areas: usize) -> Result<Vec<String>, OutOfMemory> {
+        let mut words = words_of(alloc, "run a")?;
+        for k in 0..areas {
+            words.push(format!(in alloc; "--area=n{k}:{k}:f")?)?;
+        }
+        Ok(words)
+    }
+
+    #[test]
+    fn sixteen_areas_at_most(rt: HostRuntime) -> Result<(), Fail> {
+        let words = words_with_areas(rt.alloc(), 16)?;
+        let request = parse(rt.alloc(), &words).ok().ok_or("faulty")?;
+        assert_eq!(rt; areas_of(&request), Some(16));
+        assert_eq!(rt; request.inputs.len(), 17);
+        let words = words_with_areas(rt.alloc(), 17)?;
+        let fault = parse(rt.alloc(), &words).err();
+        assert_eq!(rt; fault, Some(ParseFault::Faulty(19)));
+        Ok(())
+    }
+
     #[test]
     fn operands_are_in_their_order(rt: HostRuntime) -> Result<(), Fail> {
         let cases = [("link out in", "in", "out"), ("asm -in -", "-in", "-")];

@@ -17,6 +17,8 @@ mod options;
 mod reading;
 mod request;
 mod run_command;
+#[cfg(test)]
+mod run_tests;
 mod status;
 mod telling;
 #[cfg(test)]
