@@ -186,7 +186,7 @@ fn refused_entries(rt: HostRuntime) -> Result<(), Fail> {
         (b"_EAR_c", 224, 1, b"c"),
         (b"_EAR_a", 256, 4, b""),
         (b"_EAR_a", 112, 4, b""),
-        (b"__image_ea", 242, 0, b""),
+        (b"__image_ea", 242, 4, b""),
     ];
     for (name, value, fault, told_name) in rows {
         let x = shows(rt.alloc(), &[(name, value, SymKind::Object, true)], &[])?;
