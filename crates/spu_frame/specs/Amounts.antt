@@ -1,5 +1,5 @@
--- The targets of a function, and what each place adds to the stack pointer, as one pass over the function finds them. No clause of a
--- public call cites this.
+-- The targets of a function, and what each place adds to the stack pointer, as one pass over the function finds them. A reader need not
+-- believe this: a law says that what is found is a known write.
 use Rattle.std.specs.Prelude.{◌≡◌, ℕ, zero, suc, ◌+◌, ◌%◌, ◌<◌, ◌≤◌, ◌⊎◌, ◌==◌, ◌&&◌, ◌||◌, not, nat_le, if◌then◌else◌, Bool, true, false, List, length, Option, Some, None, slice_get, slice_set, slice_index_or, ℤ, pos, negsuc}
 use Rattle.std.specs.List.{Contains}
 use Rattle.spu_isa.specs.declared.operation.Op.{Op}
