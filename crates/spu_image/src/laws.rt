@@ -32,7 +32,6 @@ pub fn links_can_start()
 
 /// An executable of a judged program by a flat plan keeps the promise of a link, where its symbols give the named areas
 /// of the program and no place of the image.
-#[tactic(auto, using(crate::proofs::FlatImages::flat_headline))]
 pub fn flat_images_keep_the_promise()
     ensures { (p : Prog) (frames : ℕ → ℕ) (need : ℕ) → IsJudged p frames need → (plan : Plan) (limit : ℕ) → need ≤ limit → FitsFlat p plan limit → (x : Exec) (file : List ℕ)
         → IsFlatExec p (layout_of p plan limit) limit x → entries_of x.symbols ≡ map entry_of p.ears → image_place x.symbols ≡ None → Headline p (layout_of p plan limit) frames limit need x file }
