@@ -21,7 +21,7 @@ nat_equal (suc m) (suc n) = elim (nat_equal m n) as (λ s. (suc m ≡ suc n) ⊎
 holds_later : (p : Prog) (f h g r i : ℕ) (k m : ℤ) → Holds p f h r k i → Holds p f g r m i → h < g → ⊥
 holds_later p f h g r i k m a b lt = a.kept g b.x lt b.before b.here (ap (λ o. (row_of o).writes) b.il, b.register)
 
-place_cases : (m n : ℕ) → (m < n) ⊎ ((n < m) ⊎ (m ≡ n))
+pub place_cases : (m n : ℕ) → (m < n) ⊎ ((n < m) ⊎ (m ≡ n))
 place_cases zero zero = inr (inr refl)
 place_cases zero (suc n) = inl (omega arith)
 place_cases (suc m) zero = inr (inl (omega arith))

@@ -1,5 +1,12 @@
 pub mod Walks
 pub mod Additions
-pub mod Marking
-pub mod Holding
-pub mod Pending
+pub mod Formed
+pub mod Marks
+pub mod Handing
+pub mod Spreading
+pub mod Waiting
+pub mod Ways
+pub mod Findings
+pub mod Worst
+pub mod Scans
+pub mod Tests

@@ -1,4 +1,8 @@
 pub mod Walks
 pub mod Frames
 pub mod Faults
-pub mod Amounts
+pub mod Found
+pub mod Surveys
+pub mod Spreads
+pub mod Flaws
+pub mod Targets

@@ -1,11 +1,8 @@
 //! Laws of walks and frames.
 
-ghost use Rattle.std.specs.Prelude.{◌≡◌, ℕ, ℤ, Bool, false, Some};
+ghost use Rattle.std.specs.Prelude.{◌≡◌, ℕ, ℤ};
 ghost use Rattle.spu_lift.specs.declared.program.Prog.{Prog};
-ghost use Rattle.spu_lift.specs.declared.program.SymInst.{SymInst};
-ghost use Rattle.spu_lift.specs.Places.{instruction_at, IsTarget};
-ghost use Rattle.spu_frame.specs.Walks.{Adds, IsKnownWrite};
-ghost use Rattle.spu_frame.specs.Amounts.{known_number, pending};
+ghost use Rattle.spu_frame.specs.Walks.{Adds};
 ghost use Rattle.spu_frame.specs.Frames.{AreGood};
 ghost use Rattle.spu_frame.specs.Faults.{IsFaulty};
 ghost use Rattle.spu_frame.specs.declared.faults.FrameKind.{FrameKind};
@@ -19,10 +16,4 @@ pub fn place_adds_one()
 #[tactic(auto, using(crate::proofs::Additions::good_faultless))]
 pub fn good_frames_have_no_fault()
     ensures { (p : Prog) → AreGood p → (kind : FrameKind) (f i : ℕ) → IsFaulty kind p f i → ⊥ }
-{}
-
-/// What is found of a place is its known write: `target` tells the targets of the function.
-pub fn known_writes_are_found()
-    ensures { (p : Prog) (f i : ℕ) (x : SymInst) (k : ℤ) (target : ℕ → Bool) → ((j : ℕ) → target j ≡ false → IsTarget p f j → ⊥) → instruction_at p f i ≡ Some x
-        → known_number x (pending (instruction_at p f) target i) ≡ Some k → IsKnownWrite p f i k }
 {}

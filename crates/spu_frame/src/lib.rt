@@ -1,11 +1,16 @@
 //! The stack that each function uses.
 #![tactic(auto)]
 
-mod amounts;
+mod depths;
 pub mod faults;
-mod held;
+mod frame_fault;
+mod known;
 pub mod laws;
-mod repeated;
-mod targets;
+mod met;
+mod places;
+mod spread;
+mod survey;
 
+pub use depths::{Depths, frames};
 pub use faults::FrameKind;
+pub use frame_fault::FrameFault;

@@ -1,7 +1,24 @@
 //! Runs of sample programs on the symbolic machine.
 
-ghost use Rattle.std.specs.Prelude.{◌≡◌, ◌∷◌, [], Some};
+ghost use Rattle.std.specs.Prelude.{◌≡◌, ◌∷◌, [], Some, map};
+ghost use Rattle.spu_word.specs.declared.load.Area.{Area};
 ghost use Rattle.spu_ideal.specs.Machine.{run};
+ghost use Rattle.spu_ideal.specs.MoreSamples.{
+  visits,
+  tests_link,
+  halts_by_link,
+  loads_by_link,
+  describes_by_link,
+  commands_forgotten,
+  counts_status,
+  calls_number,
+  gets_below,
+  gets_elsewhere,
+  fills_queue,
+  puts_link,
+  jumps_without_link,
+  updates_wrongly,
+};
 ghost use Rattle.spu_ideal.specs.Samples.{
   nothing,
   one_area,
@@ -56,4 +73,30 @@ pub fn programs_end()
     ensures halts { (run halts (λ f. 0) 16384 nothing 2).ended ≡ Some (ending.Halt 1 0) }
     ensures misuses_channel { (run misuses_channel (λ f. 0) 16384 nothing 2).ended ≡ Some (ending.BadChannel 1) }
     ensures starves { (run starves (λ f. 0) 16384 nothing 2).ended ≡ Some ending.Starved }
+{}
+
+/// A program that stays inside, whose put lands in the area that it is given.
+#[tactic(auto, using(crate::proofs::MoreSamples::visits_stop, crate::proofs::MoreSamples::visits_send, crate::proofs::MoreSamples::visits_put))]
+pub fn visits_stay_inside()
+    ensures visits_is { (run visits (λ f. 0) 16384 one_area 32).ended ≡ Some (ending.Stop 8192) }
+    ensures visits_output_is { (run visits (λ f. 0) 16384 one_area 32).output ≡ 7 ∷ 1 ∷ 2 ∷ 2 ∷ 1 ∷ [] }
+    ensures visits_area_is { map (λ (a : Area). a.bytes) (run visits (λ f. 0) 16384 one_area 32).areas ≡ (0 ∷ 0 ∷ 0 ∷ 7 ∷ 0 ∷ 0 ∷ 0 ∷ 7 ∷ 0 ∷ 0 ∷ 0 ∷ 7 ∷ 0 ∷ 0 ∷ 0 ∷ 7 ∷ []) ∷ [] }
+{}
+
+/// Small programs that leave by the other branches of each reason, and one that ends.
+#[tactic(auto, using(crate::proofs::MoreSamples::tests_link_leaves, crate::proofs::MoreSamples::halts_by_link_leaves, crate::proofs::MoreSamples::loads_by_link_leaves, crate::proofs::MoreSamples::describes_by_link_leaves, crate::proofs::MoreSamples::commands_forgotten_leaves, crate::proofs::MoreSamples::counts_status_leaves, crate::proofs::MoreSamples::calls_number_leaves, crate::proofs::MoreSamples::gets_below_leaves, crate::proofs::MoreSamples::gets_elsewhere_leaves, crate::proofs::MoreSamples::fills_queue_leaves, crate::proofs::MoreSamples::puts_link_leaves, crate::proofs::MoreSamples::jumps_without_link_leaves, crate::proofs::MoreSamples::wrong_update_ends))]
+pub fn programs_leave()
+    ensures tests_link_ends { (run tests_link (λ f. 0) 16384 nothing 2).ended ≡ Some (ending.Outside reason.NotNumber 1 0) }
+    ensures halts_by_link_ends { (run halts_by_link (λ f. 0) 16384 nothing 2).ended ≡ Some (ending.Outside reason.NotNumber 1 0) }
+    ensures loads_by_link_ends { (run loads_by_link (λ f. 0) 16384 nothing 2).ended ≡ Some (ending.Outside reason.NotNumber 1 0) }
+    ensures describes_by_link_ends { (run describes_by_link (λ f. 0) 16384 nothing 2).ended ≡ Some (ending.Outside reason.NotNumber 1 0) }
+    ensures commands_forgotten_ends { (run commands_forgotten (λ f. 0) 16384 nothing 2).ended ≡ Some (ending.Outside reason.NotNumber 1 0) }
+    ensures counts_status_ends { (run counts_status (λ f. 0) 16384 nothing 2).ended ≡ Some (ending.Outside reason.Update 1 0) }
+    ensures calls_number_ends { (run calls_number (λ f. 0) 16384 nothing 2).ended ≡ Some (ending.Outside reason.Target 1 0) }
+    ensures gets_below_ends { (run gets_below (λ f. 0) 16384 one_area 9).ended ≡ Some (ending.Outside reason.Store 1 7) }
+    ensures gets_elsewhere_ends { (run gets_elsewhere (λ f. 0) 16384 one_area 10).ended ≡ Some (ending.Outside reason.Transfer 1 8) }
+    ensures fills_queue_ends { (run fills_queue (λ f. 0) 16384 one_area 23).ended ≡ Some (ending.Outside reason.Transfer 1 21) }
+    ensures puts_link_ends { (run puts_link (λ f. 0) 16384 one_area 17).ended ≡ Some (ending.Outside reason.NotNumber 1 15) }
+    ensures jumps_without_link_ends { (run jumps_without_link (λ f. 0) 16384 nothing 3).ended ≡ Some (ending.Outside reason.Target 1 1) }
+    ensures updates_wrongly_ends { (run updates_wrongly (λ f. 0) 16384 nothing 3).ended ≡ Some (ending.BadChannel 23) }
 {}

@@ -32,3 +32,5 @@ pub mod FirstJudged
 pub mod FirstFiles
 pub mod FirstLinks
 pub mod Samples
+pub mod FlatSteps
+pub mod SampleRuns

@@ -1,11 +1,18 @@
 -- A small object on which the promise of a link is tried: `main` sends 5 to the outbound mailbox and returns.
-use Rattle.std.specs.Prelude.{[], ◌∷◌, codes}
+use Rattle.std.specs.Prelude.{ℕ, [], ◌∷◌, codes}
 use Rattle.std.specs.List.{flat_map}
 use Rattle.spu_word.specs.Bytes.{be_digits}
 use Rattle.spu_elf.specs.declared.objects.SecKind.TheVariants as kinds
 use Rattle.spu_elf.specs.declared.objects.Section.{Section}
 use Rattle.spu_elf.specs.declared.objects.Object.{Object}
 use Rattle.spu_lift.specs.FirstForm.{object_of}
+use Rattle.spu_ls.specs.Machine.{State, step}
+use Rattle.spu_ls.specs.Start.{start}
+use Rattle.spu_ideal.specs.Samples.{nothing}
+use Rattle.spu_layout.specs.Layouts.{is_between}
+use Rattle.spu_layout.specs.Placing.{layout_of}
+use Rattle.spu_image.specs.declared.outcome.Linked.{Linked}
+use Rattle.spu_image.specs.Headline.{hops}
 
 -- il $3,5; wrch 28,$3; bi $0
 abbrev pub sample_text : Section
@@ -13,3 +20,7 @@ sample_text = record { name = codes ".text"; kind = kinds.Code; align = 8; size 
 
 abbrev pub sample : Object
 sample = object_of sample_text
+
+-- the machine that runs what was linked, with nothing given, after its first step and n hops
+abbrev pub after_hops : Linked → ℕ → State
+after_hops l n = hops (is_between (layout_of l.prog l.plan 16384)) (step (start l.exec l.file nothing)) n

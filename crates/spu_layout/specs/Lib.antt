@@ -2,3 +2,4 @@ pub mod Layouts
 pub mod Labels
 pub mod Placing
 pub mod Views
+pub mod Samples

@@ -1,31 +1,28 @@
--- Areas whose names differ.
-use Rattle.std.proofs.Common.{◌≡◌, ℕ, zero, suc, List, [], ◌∷◌, Some, None, refl, sym, ap, ◌∙◌, subst}
+-- Areas whose names are one letter, each the next.
+use Rattle.std.proofs.Common.{◌≡◌, ℕ, zero, suc, ◌+◌, List, [], ◌∷◌, ◌++◌, length, Option, Some, None, refl, sym, ap, ◌∙◌, subst, arith}
+use Rattle.std.specs.Prelude.{slice_get}
 use Rattle.spu_word.specs.declared.load.Area.{Area}
 use Rattle.spu_ls.specs.Loading.{AreDistinct}
 
-pub none_distinct : (areas : List Area) → areas ≡ [] → AreDistinct areas
-none_distinct areas e = subst AreDistinct (sym e) (λ i j a b p q same. absurd (none a p))
-  where
-    none : (a : Area) → None ≡ Some a → ⊥
-    none a p = cc
+-- the names are the letters from n on
+abbrev pub AreLettered : ℕ → List Area → Type 0
+AreLettered n [] = Unit {0}
+AreLettered n (a ∷ areas) = (a.name ≡ n ∷ []) × AreLettered (n + 1) areas
 
-two : (x y : Area) (m n : ℕ) → x.name ≡ m ∷ [] → y.name ≡ n ∷ [] → (m ≡ n → ⊥) → AreDistinct (x ∷ y ∷ [])
-two x y m n p q ne zero zero a b h k same = refl
-two x y m n p q ne (suc zero) (suc zero) a b h k same = refl
-two x y m n p q ne zero (suc zero) a b h k same = absurd (ne (let e : x ≡ a = cc in let f : y ≡ b = cc in let g : m ∷ [] ≡ n ∷ [] = sym p ∙ ap (λ (z : Area). z.name) e ∙ same ∙ sym (ap (λ (z : Area). z.name) f) ∙ q in cc))
-two x y m n p q ne (suc zero) zero a b h k same = absurd (ne (let e : y ≡ a = cc in let f : x ≡ b = cc in let g : m ∷ [] ≡ n ∷ [] = sym p ∙ ap (λ (z : Area). z.name) f ∙ sym same ∙ sym (ap (λ (z : Area). z.name) e) ∙ q in cc))
-two x y m n p q ne (suc (suc i)) j a b h k same = absurd (none i a h)
-  where
-    none : (i : ℕ) (a : Area) → None ≡ Some a → ⊥
-    none i a e = cc
-two x y m n p q ne zero (suc (suc j)) a b h k same = absurd (none b k)
+pub one_more : (n : ℕ) (areas : List Area) (a : Area) → AreLettered n areas → a.name ≡ (n + length areas) ∷ [] → AreLettered n (areas ++ a ∷ [])
+one_more n [] a h e = (subst (λ k. a.name ≡ k ∷ []) (omega arith) e, _)
+one_more n (x ∷ areas) a h e = (h.0, one_more (n + 1) areas a h.1 (subst (λ k. a.name ≡ k ∷ []) (omega arith) e))
+
+letter_at : (n : ℕ) (areas : List Area) (i : ℕ) (a : Area) → AreLettered n areas → slice_get areas i ≡ Some a → a.name ≡ (n + i) ∷ []
+letter_at n [] i a h e = absurd (none a e)
   where
     none : (a : Area) → None ≡ Some a → ⊥
     none a e = cc
-two x y m n p q ne (suc zero) (suc (suc j)) a b h k same = absurd (none b k)
-  where
-    none : (a : Area) → None ≡ Some a → ⊥
-    none a e = cc
+letter_at n (x ∷ areas) zero a h e = let same : x ≡ a = cc in subst (λ k. a.name ≡ k ∷ []) (omega arith) (subst (λ (z : Area). z.name ≡ n ∷ []) same h.0)
+letter_at n (x ∷ areas) (suc i) a h e = subst (λ k. a.name ≡ k ∷ []) (omega arith) (letter_at (n + 1) areas i a h.1 e)
 
-pub two_distinct : (areas : List Area) (x y : Area) (m n : ℕ) → areas ≡ x ∷ y ∷ [] → x.name ≡ m ∷ [] → y.name ≡ n ∷ [] → (m ≡ n → ⊥) → AreDistinct areas
-two_distinct areas x y m n e p q ne = subst AreDistinct (sym e) (two x y m n p q ne)
+pub lettered_distinct : (n : ℕ) (areas : List Area) → AreLettered n areas → AreDistinct areas
+lettered_distinct n areas h i j a b p q same =
+    let e : (n + i) ∷ [] ≡ (n + j) ∷ [] = sym (letter_at n areas i a h p) ∙ same ∙ letter_at n areas j b h q in
+    let s : n + i ≡ n + j = cc in
+    omega (arith, s)

@@ -56,17 +56,6 @@ pub fn get_from(store: &mut [u8], start: u64, image: &[u8], areas: &[Area], t: &
     );
 }
 
-/// Writes bytes over those of a sequence from an index on.
-fn write_over(old: &mut Bytes, at: usize, bytes: &[u8])
-    requires { at + length bytes.now ≤ length old.old }
-    ensures { old.new ≡ with_bytes at bytes.now old.old }
-{
-    let _len = old.len();
-    for k in 0..bytes.len() {
-        old.set(at + k, bytes[k]);
-    }
-}
-
 /// The first area that holds a range.
 fn first_holding(areas: &[Area], ea: u64, size: u32) -> Option<usize>
     ensures { result ≡ first_holding ea size areas.now }
@@ -83,7 +72,7 @@ fn write(areas: &mut [Area], ea: u64, bytes: &[u8])
 {
     if let Some(i) = first_holding(areas, ea, bytes.len() as u32) {
         let a = &mut areas[i];
-        write_over(&mut a.bytes, (ea - a.ea) as usize, bytes);
+        a.bytes.overwrite((ea - a.ea) as usize, bytes);
     }
 }
 

@@ -13,7 +13,11 @@ mod local_store;
 mod soundness;
 mod stepping;
 #[cfg(test)]
+mod load_tests;
+#[cfg(test)]
 mod tests;
+#[cfg(test)]
+mod transfer_tests;
 
 pub use ending::{MAX_HOP_STEPS, RunEnd, Tick};
 pub use soundness::{start_is_sound, step_is_sound, step_leaves_registers};

@@ -1,7 +1,8 @@
 -- What the words ask for has its inputs, and sound options.
 use Rattle.std.proofs.Common.{◌≡◌, ℕ, ◌+◌, ◌==◌, ◌≤◌, lit≤, Bool, true, false, List, [], ◌∷◌, ◌++◌, length, map, Option, Some, None, Result, Ok, Err, refl, sym, subst, ap, ◌∙◌, ◌%◌, ◌<◌, suc, arith, unwrap_or, option_map}
 use Rattle.std.specs.Prelude.{◌&&◌, not, nat_lt, nat_le, if◌then◌else◌}
-use Rattle.std.specs.List.{list_all}
+use Rattle.std.specs.List.{All, list_all}
+use Rattle.std.proofs.lemmas.List.Elements.{All-nil, All-cons}
 use Rattle.std.proofs.lemmas.Bool.Decides.{nat_tests}
 use Rattle.std.proofs.lemmas.Bool.{and_parts, leb-true, ltb-true}
 use Rattle.std.proofs.lemmas.List.{length-append, length-map}
@@ -10,27 +11,39 @@ use Rattle.spu_tool.specs.declared.options.OptionName.{OptionName}
 use Rattle.spu_tool.specs.declared.options.OptionName.TheVariants.{Steps, Mail, Area, Image}
 use Rattle.spu_tool.specs.declared.options.Options.{Options}
 use Rattle.spu_tool.specs.declared.command.Command.{Command}
-use Rattle.spu_tool.specs.declared.command.Command.TheVariants.{Assemble, Link, Run}
+use Rattle.spu_tool.specs.declared.command.Command.TheVariants.{Assemble, Link, Embed, Run}
+use Rattle.spu_tool.specs.declared.request.Action.TheVariants as action
 use Rattle.spu_tool.specs.Numbers.{bounded, number_of, number_within, word_of}
 use Rattle.spu_tool.specs.Lists.{members_of, is_word, words_of, mail_of}
 use Rattle.spu_tool.specs.Cutting.{cut_at}
 use Rattle.spu_tool.specs.Areas.{ArePlaced, AreaParts, area_word, has_room, is_placed, place_of}
 use Rattle.spu_tool.specs.Options.{AreSound, once, with_steps, with_mail, with_place, with_image, if_aligned, image_of, run_options, option_named}
-use Rattle.spu_tool.specs.Arguments.{Given, Asked, giving, with_area, with_option, with_named, with_parts, name_and_value, is_option, with_operand, with_word, with_words, nothing_given, of_two, asked_by, or_missing, asked_with, asked_after, asked, most_operands, has_option, command_named}
+use Rattle.spu_tool.specs.Arguments.{Given, Asked, giving, with_area, with_option, with_named, with_parts, name_and_value, is_option, with_operand, with_word, with_words, nothing_given, of_two, asked_embed, asked_by, or_missing, asked_with, asked_after, asked, most_operands, has_option, is_operand, is_symbol_name, command_named}
 use Rattle.spu_tool.specs.declared.areas.AreaPlace.{AreaPlace}
 use Rattle.spu_tool.specs.declared.options.TheConstants.{MAX_IMAGE}
 use Rattle.spu_elf.specs.declared.constants.TheConstants.{SEGMENT_ALIGN}
+use Rattle.spu_elf.specs.Validity.{is_printed, IsName}
+use Rattle.spu_elf.proofs.Failing.{left_true, right_true}
 use Rattle.spu_tool.specs.Makes.{IsComplete}
 use Rattle.spu_tool.proofs.Places.{one_more, not_true}
 
+-- the first operand of `embed` names a symbol
+abbrev Named : Command → List (List ℕ) → Type 0
+Named Embed [] = Unit {0}
+Named Embed (name ∷ rest) = IsName name
+Named Assemble operands = Unit {0}
+Named Link operands = Unit {0}
+Named Run operands = Unit {0}
+
 -- the options are sound, and each area has a file
-record Sound (given : Given) : Type 0 where
+record Sound (command : Command) (given : Given) : Type 0 where
   options : AreSound (run_options given.options)
   files : length given.files ≡ length given.options.places
+  named : Named command given.operands
 
 -- other options of the same areas
-re_sound : (given : Given) (o : Options) → Sound given → AreSound (run_options o) → o.places ≡ given.options.places → Sound (record given { options = o })
-re_sound given o h sound same = record { options = sound; files = h.files ∙ ap length (sym same) }
+re_sound : (command : Command) (given : Given) (o : Options) → Sound command given → AreSound (run_options o) → o.places ≡ given.options.places → Sound command (record given { options = o })
+re_sound command given o h sound same = record { options = sound; files = h.files ∙ ap length (sym same); named = h.named }
 
 -- ---- what a result says of what it came from
 
@@ -78,12 +91,12 @@ within_is most (Some m) n e = step (nat_le m most) refl e
     step true is e' = let same : m ≡ n = cc in let le : m ≤ most = leb-true m most is in subst (λ k. k ≤ most) same le
     step false is e' = absurd (cc)
 
-area_sound : (given : Given) (a : Option AreaParts) (g : Given) → with_area given a ≡ Some g → Sound given → Sound g
-area_sound given None g e h = absurd (cc)
-area_sound given (Some a) g e h = step (has_room given.options.places a.name) refl e
+area_sound : (command : Command) (given : Given) (a : Option AreaParts) (g : Given) → with_area given a ≡ Some g → Sound command given → Sound command g
+area_sound command given None g e h = absurd (cc)
+area_sound command given (Some a) g e h = step (has_room given.options.places a.name) refl e
   where
     step : (b : Bool) → has_room given.options.places a.name ≡ b
-        → (if b then Some (record given { files = given.files ++ a.file ∷ []; options = with_place given.options a.name a.ea }) else None) ≡ Some g → Sound g
+        → (if b then Some (record given { files = given.files ++ a.file ∷ []; options = with_place given.options a.name a.ea }) else None) ≡ Some g → Sound command g
     step true is e' =
         let same : record given { files = given.files ++ a.file ∷ []; options = with_place given.options a.name a.ea } ≡ g = cc in
         let both = and_parts (nat_lt (length given.options.places) MAX_AREAS) (not (is_placed given.options.places a.name)) is in
@@ -91,7 +104,7 @@ area_sound given (Some a) g e h = step (has_room given.options.places a.name) re
         let more = length-append given.options.places (place_of a.name a.ea ∷ []) in
         let files = length-append given.files (a.file ∷ []) in
         let old = h.files in
-        subst Sound same (record {
+        subst (Sound command) same (record {
           options = record {
             mail = h.options.mail;
             few = omega arith;
@@ -100,58 +113,91 @@ area_sound given (Some a) g e h = step (has_room given.options.places a.name) re
             near = h.options.near;
           };
           files = omega arith;
+          named = h.named;
         })
     step false is e' = absurd (cc)
 
-option_sound : (given : Given) (name : OptionName) (value : List ℕ) (g : Given) → with_option given name value ≡ Some g → Sound given → Sound g
-option_sound given Steps value g e h =
+option_sound : (command : Command) (given : Given) (name : OptionName) (value : List ℕ) (g : Given) → with_option given name value ≡ Some g → Sound command given → Sound command g
+option_sound command given Steps value g e h =
     let o = mapped (λ (x : Options). record given { options = x }) (with_steps given.options value) g e in
     let n = mapped (λ (k : ℕ). record given.options { steps = Some k }) (once given.options.steps (word_of value)) o.0 o.1 in
-    subst Sound (ap (λ (x : Options). record given { options = x }) n.2 ∙ o.2)
-    (re_sound given (record given.options { steps = Some n.0 }) h
+    subst (Sound command) (ap (λ (x : Options). record given { options = x }) n.2 ∙ o.2)
+    (re_sound command given (record given.options { steps = Some n.0 }) h
     (record { mail = h.options.mail; few = h.options.few; placed = h.options.placed; aligned = h.options.aligned; near = h.options.near }) refl)
-option_sound given Mail value g e h =
+option_sound command given Mail value g e h =
     let o = mapped (λ (x : Options). record given { options = x }) (with_mail given.options value) g e in
     let m = mapped (λ (ws : List ℕ). record given.options { mail = Some ws }) (once given.options.mail (mail_of value)) o.0 o.1 in
-    subst Sound (ap (λ (x : Options). record given { options = x }) m.2 ∙ o.2)
-    (re_sound given (record given.options { mail = Some m.0 }) h
+    subst (Sound command) (ap (λ (x : Options). record given { options = x }) m.2 ∙ o.2)
+    (re_sound command given (record given.options { mail = Some m.0 }) h
     (record { mail = mail_few value m.0 (once_is given.options.mail (mail_of value) m.0 m.1); few = h.options.few; placed = h.options.placed; aligned = h.options.aligned; near = h.options.near }) refl)
-option_sound given Area value g e h = area_sound given (area_word value) g e h
-option_sound given Image value g e h =
+option_sound command given Area value g e h = area_sound command given (area_word value) g e h
+option_sound command given Image value g e h =
     let o = mapped (λ (x : Options). record given { options = x }) (with_image given.options value) g e in
     let n = mapped (λ (k : ℕ). record given.options { image = Some k }) (once given.options.image (image_of value)) o.0 o.1 in
     let a = aligned_is (number_within MAX_IMAGE value) n.0 (once_is given.options.image (image_of value) n.0 n.1) in
-    subst Sound (ap (λ (x : Options). record given { options = x }) n.2 ∙ o.2)
-    (re_sound given (record given.options { image = Some n.0 }) h
+    subst (Sound command) (ap (λ (x : Options). record given { options = x }) n.2 ∙ o.2)
+    (re_sound command given (record given.options { image = Some n.0 }) h
     (record { mail = h.options.mail; few = h.options.few; placed = h.options.placed; aligned = a.1; near = within_is MAX_IMAGE (number_of value) n.0 a.0 }) refl)
 
-named_sound : (command : Command) (given : Given) (name : Option OptionName) (value : List ℕ) (g : Given) → with_named command given name value ≡ Some g → Sound given → Sound g
+named_sound : (command : Command) (given : Given) (name : Option OptionName) (value : List ℕ) (g : Given) → with_named command given name value ≡ Some g → Sound command given → Sound command g
 named_sound command given None value g e h = absurd (cc)
-named_sound command given (Some name) value g e h = option_sound given name value g (passed (has_option command name) (with_option given name value) g e) h
+named_sound command given (Some name) value g e h = option_sound command given name value g (passed (has_option command name) (with_option given name value) g e) h
 
-operand_sound : (command : Command) (given : Given) (word : List ℕ) (g : Given) → with_operand command given word ≡ Some g → Sound given → Sound g
-operand_sound command given word g e h = step (nat_lt (length given.operands) (most_operands command)) e
+name_valid : (word : List ℕ) → is_symbol_name word ≡ true → IsName word
+name_valid word e =
+    let inner : (nat_le (length word) 1023 && list_all is_printed word) ≡ true = right_true (not (length word == 0)) _ e in
+    record {
+      some = some (length word) (left_true (not (length word == 0)) _ e);
+      short = short (length word) (left_true (nat_le (length word) 1023) _ inner);
+      printed = printed word (right_true (nat_le (length word) 1023) _ inner);
+    }
   where
-    step : (b : Bool) → (if b then Some (record given { operands = given.operands ++ word ∷ [] }) else None) ≡ Some g → Sound g
-    step true is = let same : record given { operands = given.operands ++ word ∷ [] } ≡ g = cc in subst Sound same (record { options = h.options; files = h.files })
-    step false is = absurd (cc)
+    some : (n : ℕ) → not (n == 0) ≡ true → 0 < n
+    some n e = grind (arith, nat_tests)
 
-word_sound : (command : Command) (given : Given) (word : List ℕ) (g : Given) → with_word command given word ≡ Some g → Sound given → Sound g
+    short : (n : ℕ) → nat_le n 1023 ≡ true → n ≤ 1023
+    short n e = grind (arith, nat_tests)
+
+    byte : (c : ℕ) → (nat_le 33 c && nat_le c 126) ≡ true → (33 ≤ c) × (c ≤ 126)
+    byte c e = (grind (arith, nat_tests), grind (arith, nat_tests))
+
+    printed : (xs : List ℕ) → list_all is_printed xs ≡ true → All (λ c. (33 ≤ c) × (c ≤ 126)) xs
+    printed [] e = All-nil (λ c. (33 ≤ c) × (c ≤ 126))
+    printed (c ∷ cs) e = All-cons (λ c. (33 ≤ c) × (c ≤ 126)) c cs (byte c (left_true (is_printed c) (list_all is_printed cs) e)) (printed cs (right_true (is_printed c) (list_all is_printed cs) e))
+
+named_more : (command : Command) (operands : List (List ℕ)) (word : List ℕ) → is_operand command (length operands) word ≡ true → Named command operands → Named command (operands ++ word ∷ [])
+named_more Assemble operands word e h = tt
+named_more Link operands word e h = tt
+named_more Run operands word e h = tt
+named_more Embed [] word e h = name_valid word e
+named_more Embed (x ∷ xs) word e h = h
+
+operand_sound : (command : Command) (given : Given) (word : List ℕ) (g : Given) → with_operand command given word ≡ Some g → Sound command given → Sound command g
+operand_sound command given word g e h = step (nat_lt (length given.operands) (most_operands command) && is_operand command (length given.operands) word) refl e
+  where
+    step : (b : Bool) → (nat_lt (length given.operands) (most_operands command) && is_operand command (length given.operands) word) ≡ b → (if b then Some (record given { operands = given.operands ++ word ∷ [] }) else None) ≡ Some g → Sound command g
+    step true all is =
+        let same : record given { operands = given.operands ++ word ∷ [] } ≡ g = cc in
+        let own : is_operand command (length given.operands) word ≡ true = right_true (nat_lt (length given.operands) (most_operands command)) _ all in
+        subst (Sound command) same (record { options = h.options; files = h.files; named = named_more command given.operands word own h.named })
+    step false all is = absurd (cc)
+
+word_sound : (command : Command) (given : Given) (word : List ℕ) (g : Given) → with_word command given word ≡ Some g → Sound command given → Sound command g
 word_sound command given word g e h = step (length word == 0) (is_option word) e
   where
-    step : (a b : Bool) → (if a then None else if b then with_parts command given (name_and_value word (cut_at 61 word)) else with_operand command given word) ≡ Some g → Sound g
+    step : (a b : Bool) → (if a then None else if b then with_parts command given (name_and_value word (cut_at 61 word)) else with_operand command given word) ≡ Some g → Sound command g
     step true b is = absurd (cc)
     step false true is = let parts = name_and_value word (cut_at 61 word) in named_sound command given (option_named parts.0) parts.1 g is h
     step false false is = operand_sound command given word g is h
 
 -- ---- all words
 
-words_sound : (command : Command) (given : Given) (number : ℕ) (words : List (List ℕ)) (g : Given) → with_words command given number words ≡ Ok g → Sound given → Sound g
-words_sound command given number [] g e h = let same : given ≡ g = cc in subst Sound same h
+words_sound : (command : Command) (given : Given) (number : ℕ) (words : List (List ℕ)) (g : Given) → with_words command given number words ≡ Ok g → Sound command given → Sound command g
+words_sound command given number [] g e h = let same : given ≡ g = cc in subst (Sound command) same h
 words_sound command given number (word ∷ words) g e h = step (with_word command given word) refl e (λ (more : Given). words_sound command more (number + 1) words g)
   where
     step : (o : Option Given) → with_word command given word ≡ o → (elim o as (λ _. Result Given ℕ) [ None ↦ Err number | Some more ↦ with_words command more (number + 1) words ]) ≡ Ok g
-        → ((more : Given) → with_words command more (number + 1) words ≡ Ok g → Sound more → Sound g) → Sound g
+        → ((more : Given) → with_words command more (number + 1) words ≡ Ok g → Sound command more → Sound command g) → Sound command g
     step None is e' rest = absurd (cc)
     step (Some more) is e' rest = rest more e' (word_sound command given word more is h)
 
@@ -166,17 +212,31 @@ Complete r = IsComplete r.action (length r.inputs)
 one : (name : List ℕ) → 1 ≤ length (name ∷ [])
 one name = lit≤ tt
 
-by_command : (command : Command) (given : Given) (r : Asked) → Sound given → asked_by command given ≡ Some r → Complete r
+embed_complete : (operands : List (List ℕ)) (r : Asked) → Named Embed operands → asked_embed operands ≡ Some r → Complete r
+embed_complete [] r h e = absurd (cc)
+embed_complete (name ∷ []) r h e = absurd (cc)
+embed_complete (name ∷ input ∷ []) r h e = absurd (cc)
+embed_complete (name ∷ input ∷ output ∷ rest) r h e =
+    let same : record { inputs = input ∷ []; output = Some output; action = action.Embed name } ≡ r = cc in subst Complete same (one input, h)
+
+by_command : (command : Command) (given : Given) (r : Asked) → Sound command given → asked_by command given ≡ Some r → Complete r
 by_command Assemble given r h e = let t = two_is _ _ _ r e in subst Complete t.2 (one t.0)
 by_command Link given r h e = let t = two_is _ _ _ r e in subst Complete t.2 (one t.1)
+by_command Embed given r h e = embed_complete given.operands r h.named e
 by_command Run given r h e = let t = mapped _ _ r e in subst Complete t.2 (omega (arith, h.files), h.options)
 
 asked_is : (o : Option Asked) (n : ℕ) (r : Asked) → or_missing o n ≡ Ok r → o ≡ Some r
 asked_is None n r e = absurd (cc)
 asked_is (Some a) n r e = let same : a ≡ r = cc in ap Some same
 
-nothing_sound : Sound nothing_given
-nothing_sound = record { options = record { mail = lit≤ tt; few = lit≤ tt; placed = λ i j p q a b same. absurd (no p a); aligned = refl; near = lit≤ tt }; files = refl }
+none : (command : Command) → Named command []
+none Assemble = tt
+none Link = tt
+none Embed = tt
+none Run = tt
+
+nothing_sound : (command : Command) → Sound command nothing_given
+nothing_sound command = record { options = record { mail = lit≤ tt; few = lit≤ tt; placed = λ i j p q a b same. absurd (no p a); aligned = refl; near = lit≤ tt }; files = refl; named = none command }
   where
     no : (p : AreaPlace) → None ≡ Some p → ⊥
     no p e = cc
@@ -184,7 +244,7 @@ nothing_sound = record { options = record { mail = lit≤ tt; few = lit≤ tt; p
 given_complete : (command : Command) (words : List (List ℕ)) (x : Result Given ℕ) (r : Asked) → with_words command nothing_given 2 words ≡ x → asked_with command (length words + 2) x ≡ Ok r → Complete r
 given_complete command words (Err n) r is e = absurd (cc)
 given_complete command words (Ok given) r is e =
-    by_command command given r (words_sound command nothing_given 2 words given is nothing_sound) (asked_is (asked_by command given) (length words + 2) r e)
+    by_command command given r (words_sound command nothing_given 2 words given is (nothing_sound command)) (asked_is (asked_by command given) (length words + 2) r e)
 
 after_complete : (command : Option Command) (words : List (List ℕ)) (r : Asked) → asked_after command words ≡ Ok r → Complete r
 after_complete None words r e = absurd (cc)

@@ -1,12 +1,15 @@
 -- The words of a command line: first a command, and then its operands and options in any order. They are read from left to
 -- right, each by those before it; the fault is at the first that is faulty, counted from 1, or behind the last where words are
 -- missing.
-use Rattle.std.specs.Prelude.{◌≡◌, ℕ, ◌+◌, ◌==◌, Bool, true, false, List, [], ◌∷◌, ◌++◌, length, drop, codes, take, nat_lt, if◌then◌else◌, Option, Some, None, Result, Ok, Err, slice_get, option_map, map}
+use Rattle.std.specs.Prelude.{◌≡◌, ℕ, ◌+◌, ◌==◌, Bool, true, false, List, [], ◌∷◌, ◌++◌, length, drop, codes, take, nat_lt, nat_le, not, ◌&&◌, ◌||◌, if◌then◌else◌, Option, Some, None, Result, Ok, Err, slice_get, option_map, map}
+use Rattle.std.specs.List.{list_all}
 use Rattle.std.specs.Str.{bytes_eq}
+use Rattle.spu_word.specs.declared.limits.TheConstants.{MAX_NAME_SIZE}
+use Rattle.spu_elf.specs.Validity.{is_printed}
 use Rattle.std.specs.Borrow.{Bor}
 use Rattle.spu_io.specs.NameTable.{pointed_to}
 use Rattle.spu_tool.specs.declared.command.Command.{Command}
-use Rattle.spu_tool.specs.declared.command.Command.TheVariants.{Assemble, Link, Run}
+use Rattle.spu_tool.specs.declared.command.Command.TheVariants.{Assemble, Link, Embed, Run}
 use Rattle.spu_tool.specs.declared.options.OptionName.{OptionName}
 use Rattle.spu_tool.specs.declared.options.OptionName.TheVariants.{Steps, Mail, Area, Image}
 use Rattle.spu_tool.specs.declared.options.Options.{Options}
@@ -26,6 +29,7 @@ abbrev pub command_named : List ℕ → Option Command
 command_named word =
     if bytes_eq word (codes "asm") then Some Assemble else
     if bytes_eq word (codes "link") then Some Link else
+    if bytes_eq word (codes "embed") then Some Embed else
     if bytes_eq word (codes "run") then Some Run else
     None
 
@@ -33,16 +37,29 @@ command_named word =
 abbrev pub most_operands : Command → ℕ
 most_operands Assemble = 2
 most_operands Link = 2
+most_operands Embed = 3
 most_operands Run = 1
 
 -- which options each has
 abbrev pub has_option : Command → OptionName → Bool
 has_option Assemble name = false
 has_option Link name = false
+has_option Embed name = false
 has_option Run Steps = true
 has_option Run Mail = true
 has_option Run Area = true
 has_option Run Image = true
+
+-- a name of a symbol has 1 to 1,023 bytes, each from 33 to 126
+abbrev pub is_symbol_name : List ℕ → Bool
+is_symbol_name word = not (length word == 0) && (nat_le (length word) MAX_NAME_SIZE && list_all is_printed word)
+
+-- which words may be the operand of an index, counted from 0: the first of `embed` names a symbol
+abbrev pub is_operand : Command → ℕ → List ℕ → Bool
+is_operand Assemble index word = true
+is_operand Link index word = true
+is_operand Embed index word = not (index == 0) || is_symbol_name word
+is_operand Run index word = true
 
 -- ---- the words after a command
 
@@ -93,7 +110,7 @@ with_parts command given parts = with_named command given (option_named parts.0)
 
 abbrev pub with_operand : Command → Given → List ℕ → Option Given
 with_operand command given word =
-    if nat_lt (length given.operands) (most_operands command)
+    if nat_lt (length given.operands) (most_operands command) && is_operand command (length given.operands) word
     then Some (record given { operands = given.operands ++ word ∷ [] }) else None
 
 -- one word more, which is not empty; None where it is faulty
@@ -141,6 +158,12 @@ asked_link operands =
     of_two (slice_get operands 0) (slice_get operands 1)
     (λ output input. record { inputs = input ∷ []; output = Some output; action = action.Link })
 
+abbrev pub asked_embed : List (List ℕ) → Option Asked
+asked_embed [] = None
+asked_embed (name ∷ []) = None
+asked_embed (name ∷ input ∷ []) = None
+asked_embed (name ∷ input ∷ output ∷ rest) = Some (record { inputs = input ∷ []; output = Some output; action = action.Embed name })
+
 -- the executable is read, and then the files of areas
 abbrev pub asked_run : List (List ℕ) → List (List ℕ) → RunOptions → Option Asked
 asked_run operands files options =
@@ -149,6 +172,7 @@ asked_run operands files options =
 abbrev pub asked_by : Command → Given → Option Asked
 asked_by Assemble given = asked_assemble given.operands
 asked_by Link given = asked_link given.operands
+asked_by Embed given = asked_embed given.operands
 asked_by Run given = asked_run given.operands given.files (run_options given.options)
 
 -- where words are missing the fault is behind the last

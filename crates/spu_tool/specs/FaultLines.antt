@@ -7,6 +7,8 @@ use Rattle.spu_elf.specs.declared.faults.ElfKind.{ElfKind}
 use Rattle.spu_elf.specs.declared.faults.ElfKind.TheVariants as elf
 use Rattle.spu_word.specs.declared.load.LoadFault.{LoadFault}
 use Rattle.spu_word.specs.declared.load.LoadFault.TheVariants as loads
+use Rattle.spu_cesof.specs.declared.faults.CesofFault.{CesofFault}
+use Rattle.spu_cesof.specs.declared.faults.CesofFault.TheVariants as cesof
 
 abbrev pub asm_name : AsmKind → List ℕ
 asm_name asm.NotAscii = codes "A1 NotAscii"
@@ -55,3 +57,11 @@ load_line (loads.AreasOverlap name) = name_line (codes "M2 AreasOverlap ") name
 load_line (loads.AreaRange name) = name_line (codes "M3 AreaRange ") name
 load_line (loads.SegmentRange number) = codes "M4 SegmentRange " ++ decimal number ++ codes "\n"
 load_line loads.OutOfMemory = []
+
+-- what is wrong with an embedded executable, and the place or the size
+abbrev pub cesof_line : CesofFault → List ℕ
+cesof_line (cesof.NotCesof place) = codes "C1 NotCesof " ++ decimal place ++ codes "\n"
+cesof_line (cesof.BadHandle place) = codes "C2 BadHandle " ++ decimal place ++ codes "\n"
+cesof_line (cesof.BadToe place) = codes "C3 BadToe " ++ decimal place ++ codes "\n"
+cesof_line (cesof.TooLarge size) = codes "C4 TooLarge " ++ decimal size ++ codes "\n"
+cesof_line cesof.OutOfMemory = []

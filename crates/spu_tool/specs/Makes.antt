@@ -1,7 +1,10 @@
 -- What a command makes of the bytes of its files: a status, an output file where it has one, and a text.
-use Rattle.std.specs.Prelude.{◌≡◌, ℕ, ◌+◌, ◌-◌, ◌^◌, ◌<◌, ◌≤◌, ◌/◌, ◌%◌, ◌++◌, ◌∷◌, [], ◌⊎◌, nat_lt, ◌==◌, if◌then◌else◌, List, length, drop, slice_index_or, Option, Some, None, codes}
+use Rattle.std.specs.Prelude.{◌≡◌, ℕ, ◌+◌, ◌-◌, ◌^◌, ◌<◌, ◌≤◌, ◌/◌, ◌%◌, ◌++◌, ◌∷◌, [], ◌⊎◌, Bool, true, false, nat_lt, ◌==◌, if◌then◌else◌, List, length, take, drop, slice_index_or, Option, Some, None, codes}
 use Rattle.std.specs.List.{flat_map}
 use Rattle.std.specs.Fmt.{decimal}
+use Rattle.std.specs.Str.{bytes_eq}
+use Rattle.spu_word.specs.Bytes.{be_half_digits}
+use Rattle.spu_elf.specs.declared.constants.TheConstants.{EM_PPC, E_MACHINE}
 use Rattle.spu_elf.specs.declared.objects.Object.{Object}
 use Rattle.spu_elf.specs.declared.faults.ElfKind.{ElfKind}
 use Rattle.spu_elf.specs.declared.faults.ElfFault.{ElfFault}
@@ -10,12 +13,12 @@ use Rattle.spu_elf.specs.Reading.{object_fault, object_in}
 use Rattle.spu_elf.specs.declared.executables.Segment.{Segment}
 use Rattle.spu_lift.specs.FirstForm.{IsFirst}
 use Rattle.spu_elf.specs.Spelling.{spell}
-use Rattle.spu_tool.specs.FaultLines.{asm_line, elf_line, form_line, load_line}
+use Rattle.spu_tool.specs.FaultLines.{asm_line, elf_line, form_line, load_line, cesof_line}
 use Rattle.spu_image.specs.declared.outcome.Linked.{Linked}
 use Rattle.spu_image.specs.Linking.{IsLinked}
 use Rattle.spu_elf.specs.declared.executables.Exec.{Exec}
 use Rattle.spu_elf.specs.Executables.{exec_fault}
-use Rattle.spu_elf.specs.Validity.{IsValidExec}
+use Rattle.spu_elf.specs.Validity.{IsName, IsValidExec}
 use Rattle.spu_elf.specs.Spelling.{spell_exec}
 use Rattle.spu_word.specs.declared.load.LoadFault.{LoadFault}
 use Rattle.spu_word.specs.declared.load.Area.{Area}
@@ -30,7 +33,11 @@ use Rattle.spu_ls.specs.Loading.{load_fault}
 use Rattle.spu_ls.specs.Ends.{end_of}
 use Rattle.spu_ls.specs.declared.ending.RunEnd.{RunEnd}
 use Rattle.spu_ls.specs.declared.ending.RunEnd.TheVariants as ending
-use Rattle.spu_word.specs.declared.limits.TheConstants.{STACK_TOP, DATA_START}
+use Rattle.spu_word.specs.declared.limits.TheConstants.{STACK_TOP, DATA_START, MAX_FILE_SIZE}
+use Rattle.spu_cesof.specs.Embedding.{Embeds, embedding, entry_names}
+use Rattle.spu_cesof.specs.Unpacking.{cesof_fault, image_in}
+use Rattle.spu_cesof.specs.declared.faults.CesofFault.{CesofFault}
+use Rattle.spu_cesof.specs.declared.faults.CesofFault.TheVariants as cesof
 use Rattle.spu_tool.specs.declared.link_command.TheConstants.{DEFAULT_LIMIT}
 use Rattle.spu_tool.specs.declared.made.Made.{Made}
 use Rattle.spu_tool.specs.declared.options.RunOptions.{RunOptions}
@@ -180,6 +187,57 @@ pub record RunsTo (options : RunOptions) (bytes : List ℕ) (files : List (List 
 abbrev pub MakesRun : RunOptions → List ℕ → List ℕ → List (List ℕ) → Made → Type 0
 MakesRun options name bytes files m = RunsTo options bytes files m ⊎ ReadsNot (exec_fault bytes) name m
 
+-- an object that embeds an executable is for the PowerPC: bytes 18 and 19 are 0 and 20
+abbrev pub is_embedded : List ℕ → Bool
+is_embedded bytes = bytes_eq (take 2 (drop E_MACHINE bytes)) (be_half_digits EM_PPC)
+
+-- what the executable makes is made
+pub record RunsEmbedded (options : RunOptions) (name bytes : List ℕ) (files : List (List ℕ)) (m : Made) : Type 0 where
+  pub embedded : is_embedded bytes ≡ true
+  pub passes : cesof_fault bytes ≡ None
+  pub made : MakesRun options name (image_in bytes) files m
+
+-- the object has this fault
+pub record UnpacksNot (bytes : List ℕ) (m : Made) : Type 0 where
+  pub embedded : is_embedded bytes ≡ true
+  pub fault : CesofFault
+  pub first : cesof_fault bytes ≡ Some fault
+  pub is : m ≡ refused (cesof_line fault)
+
+pub record RunsPlain (options : RunOptions) (name bytes : List ℕ) (files : List (List ℕ)) (m : Made) : Type 0 where
+  pub plain : is_embedded bytes ≡ false
+  pub made : MakesRun options name bytes files m
+
+abbrev pub MakesRunOf : RunOptions → List ℕ → List ℕ → List (List ℕ) → Made → Type 0
+MakesRunOf options name bytes files m =
+    RunsEmbedded options name bytes files m ⊎ (UnpacksNot bytes m ⊎ RunsPlain options name bytes files m)
+
+-- ---- embed
+
+-- the bytes spell an executable
+pub record IsExec (exec : Exec) (bytes : List ℕ) : Type 0 where
+  pub read : exec_fault bytes ≡ None
+  pub valid : IsValidExec exec
+  pub spelled : spell_exec exec ≡ bytes
+
+-- it is embedded, and nothing is put
+pub record EmbedsTo (handle bytes : List ℕ) (m : Made) : Type 0 where
+  pub exec : Exec
+  pub is_exec : IsExec exec bytes
+  pub object : List ℕ
+  pub embeds : Embeds handle bytes object
+  pub is : m ≡ made status.Ok (Some object) []
+
+-- the object would be too large
+pub record EmbedsNot (handle bytes : List ℕ) (m : Made) : Type 0 where
+  pub exec : Exec
+  pub is_exec : IsExec exec bytes
+  pub large : MAX_FILE_SIZE < length (embedding handle (entry_names exec.symbols) bytes)
+  pub is : m ≡ refused (cesof_line (cesof.TooLarge (length (embedding handle (entry_names exec.symbols) bytes))))
+
+abbrev pub MakesEmbed : List ℕ → List ℕ → List ℕ → Made → Type 0
+MakesEmbed handle name bytes m = EmbedsTo handle bytes m ⊎ (EmbedsNot handle bytes m ⊎ ReadsNot (exec_fault bytes) name m)
+
 -- ---- by the action: the names of its files, and their bytes
 
 abbrev pub first : List (List ℕ) → List ℕ
@@ -188,10 +246,12 @@ first xs = slice_index_or xs 0 []
 abbrev pub MakesBy : Action → List (List ℕ) → List (List ℕ) → Made → Type 0
 MakesBy action.Assemble names files = MakesAssemble (first files)
 MakesBy action.Link names files = MakesLink (first names) (first files)
-MakesBy (action.Run options) names files = MakesRun options (first names) (first files) (drop 1 files)
+MakesBy (action.Embed handle) names files = MakesEmbed handle (first names) (first files)
+MakesBy (action.Run options) names files = MakesRunOf options (first names) (first files) (drop 1 files)
 
 -- how many files an action has, and what its options keep
 abbrev pub IsComplete : Action → ℕ → Type 0
 IsComplete action.Assemble files = 1 ≤ files
 IsComplete action.Link files = 1 ≤ files
+IsComplete (action.Embed handle) files = (1 ≤ files) × IsName handle
 IsComplete (action.Run options) files = (files ≡ 1 + length options.places) × AreSound options

@@ -3,7 +3,7 @@
 ghost use Rattle.std.specs.Prelude.{◌≡◌, [], ◌∷◌, map, string_bytes, length, IfOk, IfErr};
 ghost use Rattle.std.specs.Option.{option_map};
 ghost use Rattle.spu_tool.specs.Options.{IsTaken};
-ghost use Rattle.spu_tool.specs.Arguments.{asked, asked_of, asked_from, asked_assemble, asked_link, asked_run, texts_of, read_after, nothing_given, is_option, parts_in, IsFaultOf};
+ghost use Rattle.spu_tool.specs.Arguments.{asked, asked_of, asked_from, asked_assemble, asked_link, asked_embed, asked_run, texts_of, read_after, nothing_given, is_option, parts_in, IsFaultOf};
 ghost use Rattle.spu_tool.specs.declared.arguments.ParseFault.TheVariants as faults;
 
 use crate::areas::{AreaWord, area_word};
@@ -11,7 +11,7 @@ use crate::command::Command;
 use crate::cutting::cut_at;
 use crate::options::{OptionName, Options, RunOptions};
 use crate::request::{Action, Request};
-use spu_word::OutOfMemory;
+use spu_word::{OutOfMemory, Seq};
 use std::alloc::Global;
 use std::marker::Model;
 
@@ -138,7 +138,8 @@ impl<'a> Arguments<'a> {
     fn take_operand(&mut self, command: Command, word: &'a str) -> Result<bool, OutOfMemory>
         ensures { IfOk result (IsTaken (with_operand command self.old word.now) self.new) }
     {
-        if self.operands.len() < command.most_operands() {
+        let index = self.operands.len();
+        if index < command.most_operands() && command.is_operand(index, word.as_bytes()) {
             self.operands.push(word)?;
             Ok(true)
         } else {
@@ -200,6 +201,23 @@ fn link_request<'a>(alloc: Global, operands: &[&'a str]) -> Result<Option<Reques
     }
 }
 
+// The request of `embed NAME IN OUT`.
+fn embed_request<'a>(
+    alloc: Global,
+    operands: &[&'a str],
+) -> Result<Option<Request<'a>>, OutOfMemory>
+    ensures { IfOk result (λ r. option_map asked_of r ≡ asked_embed (texts_of operands.now)) }
+{
+    match operands {
+        [name, input, output, ..] => Ok(Some(Request {
+            inputs: alone(alloc, input)?,
+            output: Some(output),
+            action: Action::Embed(Seq::copied(alloc, name.as_bytes())?),
+        })),
+        _ => Ok(None),
+    }
+}
+
 // A file, and then others.
 fn with_files<'a>(
     alloc: Global,
@@ -254,6 +272,7 @@ impl<'a> Arguments<'a> {
         match command {
             Command::Assemble => assemble_request(alloc, operands.as_slice()),
             Command::Link => link_request(alloc, operands.as_slice()),
+            Command::Embed => embed_request(alloc, operands.as_slice()),
             Command::Run => run_request(
                 alloc,
                 operands.as_slice(),
@@ -340,6 +359,9 @@ mod tests {
             ("link a b c", 4),
             ("link a --entry=b c", 3),
             ("link --steps=1 a b", 2),
+            ("embed a b", 4),
+            ("embed \u{e9} b c", 2),
+            ("embed a b c d", 5),
             ("run --steps=5", 3),
             ("run --steps a", 2),
             ("run --steps= a", 2),
@@ -387,7 +409,7 @@ mod tests {
     fn steps_of(action: Action) -> Option<u32> {
         match action {
             Action::Run(options) => Some(options.steps),
-            Action::Assemble | Action::Link => None,
+            Action::Assemble | Action::Link | Action::Embed(_) => None,
         }
     }
 
@@ -410,6 +432,35 @@ mod tests {
             assert_eq!(rt; inputs.as_slice(), ["a"].as_slice());
             assert_eq!(rt; steps_of(action), Some(expected), "at {line}");
         }
+        Ok(())
+    }
+
+    // How many areas a request names; None of another action.
+    fn areas_of(request: &Request<'_>) -> Option<usize> {
+        match &request.action {
+            Action::Run(options) => Some(options.places.len()),
+            Action::Assemble | Action::Link => None,
+        }
+    }
+
+    // `run a`, with so many areas.
+    fn words_with_areas(alloc: Global, areas: usize) -> Result<Vec<String>, OutOfMemory> {
+        let mut words = words_of(alloc, "run a")?;
+        for k in 0..areas {
+            words.push(format!(in alloc; "--area=n{k}:{k}:f")?)?;
+        }
+        Ok(words)
+    }
+
+    #[test]
+    fn sixteen_areas_at_most(rt: HostRuntime) -> Result<(), Fail> {
+        let words = words_with_areas(rt.alloc(), 16)?;
+        let request = parse(rt.alloc(), &words).ok().ok_or("faulty")?;
+        assert_eq!(rt; areas_of(&request), Some(16));
+        assert_eq!(rt; request.inputs.len(), 17);
+        let words = words_with_areas(rt.alloc(), 17)?;
+        let fault = parse(rt.alloc(), &words).err();
+        assert_eq!(rt; fault, Some(ParseFault::Faulty(19)));
         Ok(())
     }
 

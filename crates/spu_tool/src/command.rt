@@ -1,8 +1,13 @@
 //! The commands: their names, operands and options.
 
-ghost use Rattle.std.specs.Prelude.{◌≡◌};
+ghost use Rattle.std.specs.Prelude.{◌≡◌, ℕ};
+ghost use Rattle.std.specs.List.{list_all};
+ghost use Rattle.spu_elf.specs.Validity.{is_printed};
+ghost use Rattle.spu_tool.specs.Arguments.{is_symbol_name};
 
 use crate::options::OptionName;
+use spu_elf::is_printed;
+use spu_word::limits::MAX_NAME_SIZE;
 
 /// A command.
 #[derive(Clone, Copy, PartialEq, Eq, Debug)]
@@ -11,12 +16,28 @@ pub enum Command {
     Assemble,
     /// `link OUT IN`
     Link,
+    /// `embed NAME IN OUT`
+    Embed,
     /// `run IN`
     Run,
 }
 
+/// Whether each byte may stand in a name.
+fn are_printed(word: &[u8]) -> bool
+    ensures { result ≡ list_all is_printed word.now }
+{
+    word.iter().all(|c| is_printed(*c))
+}
+
+/// Whether a word may name a symbol.
+fn is_symbol_name(word: &[u8]) -> bool
+    ensures { result ≡ is_symbol_name word.now }
+{
+    !word.is_empty() && word.len() <= MAX_NAME_SIZE as usize && are_printed(word)
+}
+
 impl Command {
-    ghost use Rattle.spu_tool.specs.Arguments.{command_named, most_operands, has_option};
+    ghost use Rattle.spu_tool.specs.Arguments.{command_named, most_operands, has_option, is_operand};
 
     /// The command of this name.
     pub fn named(word: &[u8]) -> Option<Command>
@@ -25,6 +46,7 @@ impl Command {
         match word {
             b"asm" => Some(Command::Assemble),
             b"link" => Some(Command::Link),
+            b"embed" => Some(Command::Embed),
             b"run" => Some(Command::Run),
             _ => None,
         }
@@ -37,6 +59,7 @@ impl Command {
         match self {
             Command::Assemble => 2,
             Command::Link => 2,
+            Command::Embed => 3,
             Command::Run => 1,
         }
     }
@@ -47,7 +70,17 @@ impl Command {
     {
         match (self, name) {
             (Command::Run, _) => true,
-            (Command::Assemble | Command::Link, _) => false,
+            (Command::Assemble | Command::Link | Command::Embed, _) => false,
+        }
+    }
+
+    /// Whether a word may be the operand of this index, counted from 0.
+    pub fn is_operand(self, index: usize, word: &[u8]) -> bool
+        ensures { result ≡ is_operand self index word.now }
+    {
+        match self {
+            Command::Assemble | Command::Link | Command::Run => true,
+            Command::Embed => index != 0 || is_symbol_name(word),
         }
     }
 }

@@ -13,7 +13,7 @@ use spu_word::{LoadFault, OutOfMemory, Seq};
 use std::alloc::Global;
 
 /// A refusal with this line.
-fn refusal(alloc: Global, line: &str) -> Result<Made, OutOfMemory>
+pub fn refusal(alloc: Global, line: &str) -> Result<Made, OutOfMemory>
     ensures { IfOk result (λ m. m ≡ refused line.now) }
 {
     Ok(Made {

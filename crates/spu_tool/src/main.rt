@@ -1,4 +1,4 @@
-//! The tool: texts are assembled, objects are linked, and executables are run.
+//! The tool: texts are assembled, objects are linked, and executables are embedded and run.
 #![tactic(auto)]
 
 mod areas;
@@ -7,6 +7,7 @@ mod assemble_command;
 mod command;
 mod concluding;
 mod cutting;
+mod embed_command;
 mod fault_lines;
 mod link_command;
 mod lists;
@@ -17,6 +18,8 @@ mod options;
 mod reading;
 mod request;
 mod run_command;
+#[cfg(test)]
+mod run_tests;
 mod status;
 mod telling;
 #[cfg(test)]

@@ -5,10 +5,10 @@ ghost use Rattle.spu_tool.specs.Arguments.{texts_of};
 ghost use Rattle.spu_tool.specs.Makes.{MakesBy, IsComplete, first};
 
 use crate::assemble_command::assemble_command;
+use crate::embed_command::{embed_command, run_any};
 use crate::link_command::link_command;
 use crate::made::Made;
 use crate::request::Action;
-use crate::run_command::run_command;
 use spu_word::{Bytes, OutOfMemory};
 use std::alloc::Global;
 
@@ -49,9 +49,17 @@ pub fn make(
 {
     match action {
         Action::Assemble => assemble_command(alloc, first_file(files)),
+        Action::Embed(handle) => {
+            embed_command(
+                alloc,
+                handle.as_slice(),
+                first_name(names),
+                first_file(files),
+            )
+        }
         Action::Link => link_command(alloc, first_name(names), first_file(files)),
         Action::Run(options) => {
-            run_command(
+            run_any(
                 alloc,
                 options,
                 first_name(names),

@@ -1,6 +1,7 @@
 //! What a command line asks for.
 
 use crate::options::RunOptions;
+use spu_word::Name;
 
 /// What a command makes of the bytes of its files.
 #[derive(Drop)]
@@ -9,6 +10,8 @@ pub enum Action {
     Assemble,
     /// The executable of an object.
     Link,
+    /// The object that embeds an executable, with a handle of this name.
+    Embed(Name),
     /// What a run of an executable shows.
     Run(RunOptions),
 }

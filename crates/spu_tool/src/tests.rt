@@ -45,9 +45,9 @@ fn words_of(alloc: Global, line: &str) -> Result<Vec<String>, OutOfMemory> {
 
 // Files and a sink, of which no call fails, or this one.
 #[derive(Drop)]
-struct Outside {
-    files: MemFiles,
-    out: MemSink,
+pub struct Outside {
+    pub files: MemFiles,
+    pub out: MemSink,
 }
 
 fn listed(alloc: Global, call: Option<u64>) -> Result<Seq<u64>, OutOfMemory> {
@@ -59,7 +59,7 @@ fn listed(alloc: Global, call: Option<u64>) -> Result<Seq<u64>, OutOfMemory> {
 }
 
 impl Outside {
-    fn new(
+    pub fn new(
         alloc: Global,
         failing_file: Option<u64>,
         failing_put: Option<u64>,
@@ -71,7 +71,7 @@ impl Outside {
     }
 
     // The status of a call.
-    fn call(&mut self, alloc: Global, line: &str) -> Result<Status, OutOfMemory> {
+    pub fn call(&mut self, alloc: Global, line: &str) -> Result<Status, OutOfMemory> {
         let words = words_of(alloc, line)?;
         Ok(tool(alloc, &words, &mut self.files, &mut self.out))
     }

@@ -1,0 +1,12 @@
+pub mod NameParts
+pub mod Parts
+pub mod Spelled
+pub mod Whole
+pub mod NamesBack
+pub mod Back
+pub mod BackWhole
+pub mod Forth
+pub mod ForthWhole
+pub mod Taken
+pub mod Written
+pub mod Given
