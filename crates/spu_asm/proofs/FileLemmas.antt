@@ -12,9 +12,9 @@ use Rattle.spu_elf.proofs.ExtentLemmas.{few_symbols}
 use Rattle.spu_asm.specs.Statements.{Name, Relocation}
 use Rattle.spu_asm.specs.Histories.{Spot}
 use Rattle.spu_asm.specs.Tables.{Rows}
-use Rattle.spu_asm.specs.Cursors.{Draft, Sighting}
-use Rattle.spu_asm.specs.Accepting.{Cursor, section_at, symbol_at, is_global_at, is_local_at, ordered_at, reloc_at, relocs_at, object_at}
-use Rattle.spu_asm.specs.Assemblers.{is_near, has_near, is_small, is_spellable}
+use Rattle.spu_asm.specs.Summaries.{Draft, Sighting, Cursor}
+use Rattle.spu_asm.specs.Objects.{section_at, symbol_at, is_global_at, is_local_at, ordered_at, reloc_at, relocs_at, object_at}
+use Rattle.spu_asm.specs.Cursors.{is_near, has_near, is_small, is_spellable}
 
 module _ {A : Type 0} (p q : A → Bool) (other : (x : A) → q x ≡ not (p x)) where
   -- a list in two parts is as long

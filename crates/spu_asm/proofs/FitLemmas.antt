@@ -8,8 +8,9 @@ use Rattle.spu_elf.specs.declared.objects.SecKind.TheVariants as kinds
 use Rattle.spu_asm.specs.Statements.{Name, Effect, instruction, content, space, align, common}
 use Rattle.spu_asm.specs.Histories.{Heading, same, gap, filling, added_bytes, needs, target_of}
 use Rattle.spu_asm.specs.Tables.{Rows, value_in, opened}
-use Rattle.spu_asm.specs.Cursors.{Draft, Fits, blank, opened_headings, draft_kind, draft_size, size_at}
-use Rattle.spu_asm.specs.Accepting.{Cursor, label_needs, with_labels, common_at, is_too_large_at}
+use Rattle.spu_asm.specs.Summaries.{Draft, draft_kind, draft_size, size_at, Cursor}
+use Rattle.spu_asm.specs.Faults.{is_too_large_at}
+use Rattle.spu_asm.specs.Cursors.{Fits, blank, opened_headings, label_needs, with_labels, common_at}
 use Rattle.spu_asm.proofs.DraftLemmas.{length_lnops}
 
 gap_zero : (step : ℕ) → gap step 0 ≡ 0

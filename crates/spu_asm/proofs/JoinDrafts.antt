@@ -7,13 +7,14 @@ use Rattle.std.proofs.lemmas.List.{append-nil}
 use Rattle.std.proofs.lemmas.List.Sums.{sum_by-cons}
 use Rattle.spu_elf.specs.declared.objects.SecKind.{SecKind}
 use Rattle.spu_elf.specs.declared.objects.SecKind.TheVariants as kinds
-use Rattle.spu_asm.specs.Standing.{heading_name, heading_names, draft_in, Drafts, IsAtHome}
-use Rattle.spu_asm.specs.Statements.{Name, Relocation, Effect, instruction, content, space, align, common}
-use Rattle.spu_asm.specs.Histories.{History, Entry, Heading, heading, same, is_among, current, size_in, bytes_in, relocations_in, opened_all, headings, needs, needed, kind_among, kind_or, asked, stored, added_bytes, target_of, new_bytes, relocations_by, moved, enter}
+use Rattle.spu_asm.specs.Statements.{moved, Name, Relocation, Effect, instruction, content, space, align, common}
+use Rattle.spu_asm.specs.Histories.{History, Entry, Heading, heading, same, is_among, current, size_in, bytes_in, relocations_in, opened_all, headings, needs, needed, asked, stored, added_bytes, target_of, relocations_by}
 use Rattle.spu_asm.specs.Tables.{Rows, edited}
-use Rattle.spu_asm.specs.Cursors.{Draft, blank, grown_by, draft_kind, draft_size, kind_at, size_at}
+use Rattle.spu_asm.specs.Summaries.{Draft, draft_in, heading_name, summary, draft_kind, draft_size, kind_at, size_at, kind_here, new_bytes, enter}
+use Rattle.spu_asm.specs.Cursors.{blank, grown_by}
+use Rattle.spu_asm.proofs.Standing.{heading_names, Drafts, IsAtHome}
 use Rattle.spu_asm.proofs.JoinTables.{same_is, same_sym, neither, found, among_found, found_key, value_found, turned, edited_tabled, tabled_same}
-use Rattle.spu_asm.proofs.JoinSections.{not_opened_all, kind_from, kind_or_found, kind_among_found, kind_first, found_padded, found_common}
+use Rattle.spu_asm.proofs.JoinSections.{not_opened_all, kind_from, kind_first, found_padded, found_common}
 
 -- ---- one section
 
@@ -74,36 +75,68 @@ other_draft h e x not =
     let size : size_in x.name (e ∷ h) ≡ size_in x.name h = rw (sum_by-cons, not) (omega arith) in
     rw (size, not, referred_other e.effect x.name e.home (size_in x.name h) not, append-nil (bytes_in x.name h), append-nil (relocations_in x.name h), max-zero) refl
 
+-- ---- look-ups
+
+size_found : (h : History) (n : Name) (o : Option Heading) → ((x : Heading) → o ≡ Some x → n ≡ x.name) → (o ≡ None → size_in n h ≡ 0) → draft_size (option_map (draft_in h) o) ≡ size_in n h
+size_found h n (Some x) named none = ap (λ m. size_in m h) (sym (named x refl))
+size_found h n None named none = sym (none refl)
+
+-- how large the table says that a section is
+pub size_told : (h : History) (xs : List Heading) (t : Rows Draft) (n : Name) → Drafts (draft_in h) xs t → size_at t n ≡ size_in n h
+size_told h xs t n p =
+    ap (λ u. size_at u n) p.entries
+    ∙ ap draft_size (value_found heading_name (draft_in h) xs n)
+    ∙ size_found h n (found heading_name xs n) (found_key heading_name xs n) (λ e. ap (λ (d : Draft). d.size) (p.fresh (heading n kinds.Code) (among_found heading_name xs n ∙ ap is_some e)))
+
+kind_found : (h : History) (k : SecKind) (o : Option Heading) → (elim (draft_kind (option_map (draft_in h) o)) [ Some j ↦ j | None ↦ k ]) ≡ kind_from o k
+kind_found h k (Some x) = refl
+kind_found h k None = refl
+
+-- of which kind the table says that a section is
+kind_told : (h : History) (xs : List Heading) (t : Rows Draft) (n : Name) (k : SecKind) → Drafts (draft_in h) xs t → kind_at t n k ≡ kind_from (found heading_name xs n) k
+kind_told h xs t n k p =
+    ap (λ u. kind_at u n k) p.entries
+    ∙ ap (λ (o : Option Draft). elim (draft_kind o) [ Some j ↦ j | None ↦ k ]) (value_found heading_name (draft_in h) xs n)
+    ∙ kind_found h k (found heading_name xs n)
+
 -- ---- the bytes that are added
 
 -- the bytes of the statement are those that a section of x's kind takes, where they are x's
 abbrev TakesBytes : History → Effect → Heading → Type 0
-TakesBytes h e x = same (target_of e (current h)) x.name ≡ true → new_bytes h e ≡ added_bytes x.kind (size_in x.name h) e
+TakesBytes h e x = same (target_of e (current h)) x.name ≡ true → new_bytes (summary h) e ≡ added_bytes x.kind (size_in x.name h) e
 
 -- the first section of its name among those of a history and those that a statement needs
 abbrev IsFound : History → List Name → Effect → Heading → Type 0
 IsFound h ls e x = found heading_name (opened_all (headings h) (needed (current h) ls e)) x.name ≡ Some x
 
-padded_kind : (h : History) (ls : List Name) (step : ℕ) (x : Heading) → IsFound h ls (align step) x → current h ≡ x.name → kind_among (headings h) (current h) ≡ x.kind
-padded_kind h ls step x f e =
+-- the sections of a history, by name
+abbrev pub AreKept : History → Type 0
+AreKept h = Drafts (draft_in h) (headings h) (summary h).sections
+
+padded_kind : (h : History) (ls : List Name) (step : ℕ) (x : Heading) → AreKept h → IsFound h ls (align step) x → current h ≡ x.name → kind_here (summary h) ≡ x.kind
+padded_kind h ls step x kept f e =
     let here : found heading_name (opened_all (headings h) (needed (current h) ls (align step))) (current h) ≡ Some x = ap (found heading_name (opened_all (headings h) (needed (current h) ls (align step)))) e ∙ f in
-    kind_among_found (headings h) (current h) ∙ kind_first (found heading_name (headings h) (current h)) (heading (current h) kinds.Code) x (sym (found_padded (headings h) (current h) ls step) ∙ here)
+    kind_told h (headings h) (summary h).sections (current h) kinds.Code kept ∙ kind_first (found heading_name (headings h) (current h)) (heading (current h) kinds.Code) x (sym (found_padded (headings h) (current h) ls step) ∙ here)
 
-common_kind : (h : History) (ls : List Name) (n : Name) (size step : ℕ) (x : Heading) → IsAtHome (headings h) (current h) → IsFound h ls (common n size step) x → codes ".bss" ≡ x.name → kind_or kinds.Zero (headings h) (codes ".bss") ≡ x.kind
-common_kind h ls n size step x at_home f e =
+common_kind : (h : History) (ls : List Name) (n : Name) (size step : ℕ) (x : Heading) → AreKept h → IsAtHome (headings h) (current h) → IsFound h ls (common n size step) x → codes ".bss" ≡ x.name → kind_at (summary h).sections (codes ".bss") kinds.Zero ≡ x.kind
+common_kind h ls n size step x kept at_home f e =
     let here : found heading_name (opened_all (headings h) (needed (current h) ls (common n size step))) (codes ".bss") ≡ Some x = ap (found heading_name (opened_all (headings h) (needed (current h) ls (common n size step)))) e ∙ f in
-    kind_or_found kinds.Zero (headings h) (codes ".bss") ∙ kind_first (found heading_name (headings h) (codes ".bss")) (heading (codes ".bss") kinds.Zero) x (sym (found_common (headings h) (current h) ls n size step at_home) ∙ here)
+    kind_told h (headings h) (summary h).sections (codes ".bss") kinds.Zero kept ∙ kind_first (found heading_name (headings h) (codes ".bss")) (heading (codes ".bss") kinds.Zero) x (sym (found_common (headings h) (current h) ls n size step at_home) ∙ here)
 
-takes_bytes : (h : History) (ls : List Name) (e : Effect) (x : Heading) → IsAtHome (headings h) (current h) → IsFound h ls e x → TakesBytes h e x
-takes_bytes h ls (align step) x at_home f is =
+place_is : (h : History) (n : Name) (x : Heading) → AreKept h → n ≡ x.name → size_at (summary h).sections n ≡ size_in x.name h
+place_is h n x kept e = size_told h (headings h) (summary h).sections n kept ∙ ap (λ m. size_in m h) e
+
+added_is : (e : Effect) (k j : SecKind) (at place : ℕ) → k ≡ j → at ≡ place → added_bytes k at e ≡ added_bytes j place e
+added_is e k j at place p q = rw (p, q) refl
+
+takes_bytes : (h : History) (ls : List Name) (e : Effect) (x : Heading) → AreKept h → IsAtHome (headings h) (current h) → IsFound h ls e x → TakesBytes h e x
+takes_bytes h ls (align step) x kept at_home f is =
     let e : current h ≡ x.name = same_is (current h) x.name is in
-    let kind = padded_kind h ls step x f e in
-    ap (λ k. added_bytes k (size_in (current h) h) (align step)) kind ∙ ap (λ n. added_bytes x.kind (size_in n h) (align step)) e
-takes_bytes h ls (common n size step) x at_home f is =
+    added_is (align step) _ x.kind _ (size_in x.name h) (padded_kind h ls step x kept f e) (place_is h (current h) x kept e)
+takes_bytes h ls (common n size step) x kept at_home f is =
     let e : codes ".bss" ≡ x.name = same_is (codes ".bss") x.name is in
-    let kind = common_kind h ls n size step x at_home f e in
-    ap (λ k. added_bytes k (size_in (codes ".bss") h) (common n size step)) kind ∙ ap (λ m. added_bytes x.kind (size_in m h) (common n size step)) e
-takes_bytes h ls _ x at_home f is = refl
+    added_is (common n size step) _ x.kind _ (size_in x.name h) (common_kind h ls n size step x kept at_home f e) (place_is h (codes ".bss") x kept e)
+takes_bytes h ls _ x kept at_home f is = refl
 
 -- a section behind a statement
 draft_step : (h : History) (ls : List Name) (e : Effect) (x : Heading) → TakesBytes h e x → turned heading_name (draft_in h) (target_of e (current h)) (grown_by e) x ≡ draft_in (enter h ls e ∷ h) x
@@ -144,45 +177,17 @@ untouched h (common n size step) x none = elsewhere h (common n size step) x non
 untouched h _ x none = (either_way (same (current h) x.name) (draft_in h x), λ is. refl)
 
 -- **the sections behind a statement**
-pub drafts_step : (h : History) (ls : List Name) (e : Effect) (t : Rows Draft) → IsAtHome (headings h) (current h) → Drafts (draft_in h) (opened_all (headings h) (needed (current h) ls e)) t → ((x : Heading) → is_among (heading_names (headings h)) x.name ≡ false → draft_in h x ≡ blank x.kind) → Drafts (draft_in (enter h ls e ∷ h)) (opened_all (headings h) (needed (current h) ls e)) (edited t (target_of e (current h)) (grown_by e))
-drafts_step h ls e t at_home p fresh =
+pub drafts_step : (h : History) (ls : List Name) (e : Effect) (t : Rows Draft) → AreKept h → IsAtHome (headings h) (current h) → Drafts (draft_in h) (opened_all (headings h) (needed (current h) ls e)) t → ((x : Heading) → is_among (heading_names (headings h)) x.name ≡ false → draft_in h x ≡ blank x.kind) → Drafts (draft_in (enter h ls e ∷ h)) (opened_all (headings h) (needed (current h) ls e)) (edited t (target_of e (current h)) (grown_by e))
+drafts_step h ls e t kept at_home p fresh =
     let xs : List Heading = opened_all (headings h) (needed (current h) ls e) in
     record {
       entries =
           ap (λ u. edited u (target_of e (current h)) (grown_by e)) p.entries
           ∙ edited_tabled heading_name (draft_in h) (target_of e (current h)) (grown_by e) xs p.distinct
-          ∙ tabled_same heading_name (turned heading_name (draft_in h) (target_of e (current h)) (grown_by e)) (draft_in (enter h ls e ∷ h)) xs p.distinct (λ x f. draft_step h ls e x (takes_bytes h ls e x at_home f));
+          ∙ tabled_same heading_name (turned heading_name (draft_in h) (target_of e (current h)) (grown_by e)) (draft_in (enter h ls e ∷ h)) xs p.distinct (λ x f. draft_step h ls e x (takes_bytes h ls e x kept at_home f));
       distinct = p.distinct;
       fresh = λ x none.
           let q = not_opened_all (headings h) (needed (current h) ls e) x.name none in
           let u = untouched h e x (not_needed (current h) ls e x.name q.0) in
           sym (draft_step h ls e x u.1) ∙ u.0 ∙ fresh x q.1;
     }
-
--- ---- look-ups
-
-size_found : (h : History) (n : Name) (o : Option Heading) → ((x : Heading) → o ≡ Some x → n ≡ x.name) → (o ≡ None → size_in n h ≡ 0) → draft_size (option_map (draft_in h) o) ≡ size_in n h
-size_found h n (Some x) named none = ap (λ m. size_in m h) (sym (named x refl))
-size_found h n None named none = sym (none refl)
-
--- how large the table says that a section is
-pub size_told : (h : History) (xs : List Heading) (t : Rows Draft) (n : Name) → Drafts (draft_in h) xs t → size_at t n ≡ size_in n h
-size_told h xs t n p =
-    ap (λ u. size_at u n) p.entries
-    ∙ ap draft_size (value_found heading_name (draft_in h) xs n)
-    ∙ size_found h n (found heading_name xs n) (found_key heading_name xs n) (λ e. ap (λ (d : Draft). d.size) (p.fresh (heading n kinds.Code) (among_found heading_name xs n ∙ ap is_some e)))
-
-kind_found : (h : History) (k : SecKind) (o : Option Heading) → (elim (draft_kind (option_map (draft_in h) o)) [ Some j ↦ j | None ↦ k ]) ≡ kind_from o k
-kind_found h k (Some x) = refl
-kind_found h k None = refl
-
--- of which kind the table says that a section is
-pub kind_told : (h : History) (xs : List Heading) (t : Rows Draft) (n : Name) (k : SecKind) → Drafts (draft_in h) xs t → kind_at t n k ≡ kind_or k xs n
-kind_told h xs t n k p =
-    ap (λ u. kind_at u n k) p.entries
-    ∙ ap (λ (o : Option Draft). elim (draft_kind o) [ Some j ↦ j | None ↦ k ]) (value_found heading_name (draft_in h) xs n)
-    ∙ kind_found h k (found heading_name xs n)
-    ∙ sym (kind_or_found k xs n)
-
-pub code_or : (xs : List Heading) (n : Name) → kind_or kinds.Code xs n ≡ kind_among xs n
-code_or xs n = kind_or_found kinds.Code xs n ∙ sym (kind_among_found xs n)

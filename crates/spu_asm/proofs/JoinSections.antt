@@ -4,12 +4,13 @@ use Rattle.std.specs.Prelude.{is_some, if◌then◌else◌}
 use Rattle.std.proofs.lemmas.Bool.{cases_Bool}
 use Rattle.spu_elf.specs.declared.objects.SecKind.{SecKind}
 use Rattle.spu_elf.specs.declared.objects.SecKind.TheVariants as kinds
-use Rattle.spu_asm.specs.Standing.{Distinct, tabled, heading_name, heading_names, Drafts, IsAtHome}
 use Rattle.spu_asm.specs.Statements.{Name, align, common}
+use Rattle.spu_asm.specs.Histories.{History, Heading, heading, same, is_among, size_in, bytes_in, align_in, relocations_in, seen, opened_all, needed, stored}
+use Rattle.spu_asm.specs.Tables.{Distinct, Rows, opened}
+use Rattle.spu_asm.specs.Summaries.{tabled, heading_name, Draft}
+use Rattle.spu_asm.specs.Cursors.{blank, opened_heading, opened_headings}
+use Rattle.spu_asm.proofs.Standing.{heading_names, Drafts, IsAtHome}
 use Rattle.spu_asm.specs.Histories
-use Rattle.spu_asm.specs.Histories.{History, Heading, heading, same, is_among, size_in, bytes_in, align_in, relocations_in, seen, opened_all, needed, kind_among, kind_or, stored}
-use Rattle.spu_asm.specs.Tables.{Rows, opened}
-use Rattle.spu_asm.specs.Cursors.{Draft, blank, opened_heading, opened_headings}
 use Rattle.spu_asm.proofs.JoinTables.{same_is, same_self, either_not, not_seen, seen_distinct, found, among_found}
 
 -- ---- sections are opened
@@ -79,20 +80,6 @@ found_opened (x ∷ xs) y n = elim (cases_Bool (same n x.name)) [
     no_other : (o : Option Heading) → o ≡ or_first o None
     no_other None = refl
     no_other (Some x) = refl
-
-pub kind_or_found : (k : SecKind) (xs : List Heading) (n : Name) → kind_or k xs n ≡ kind_from (found heading_name xs n) k
-kind_or_found k [] n = refl
-kind_or_found k (x ∷ xs) n = elim (cases_Bool (same n x.name)) [
-  | inl is ↦ rw is refl
-  | inr not ↦ rw not (kind_or_found k xs n)
-]
-
-pub kind_among_found : (xs : List Heading) (n : Name) → kind_among xs n ≡ kind_from (found heading_name xs n) kinds.Code
-kind_among_found [] n = refl
-kind_among_found (x ∷ xs) n = elim (cases_Bool (same n x.name)) [
-  | inl is ↦ rw is refl
-  | inr not ↦ rw not (kind_among_found xs n)
-]
 
 pub kind_first : (o : Option Heading) (y x : Heading) → or_first o (Some y) ≡ Some x → kind_from o y.kind ≡ x.kind
 kind_first None y x h = let e : y ≡ x = cc in ap (λ (z : Heading). z.kind) e

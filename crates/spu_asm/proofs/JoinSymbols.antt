@@ -3,11 +3,12 @@ use Rattle.std.proofs.Common.{◌≡◌, ℕ, true, false, List, [], ◌∷◌, 
 use Rattle.std.specs.Prelude.{is_some, if◌then◌else◌}
 use Rattle.std.proofs.Math.Path.{fun_ext}
 use Rattle.std.proofs.lemmas.Bool.{cases_Bool}
-use Rattle.spu_asm.specs.Standing.{Distinct, tabled, itself, sighting_in, Tells}
 use Rattle.spu_asm.specs.Statements.{Name, Effect, nothing, instruction, content, exports, has_kind, ends_here, has_size, common}
-use Rattle.spu_asm.specs.Histories.{History, Spot, same, is_among, current, size_in, common_spot, reach, relocation_names, seen, seen_all, named_by, enter}
-use Rattle.spu_asm.specs.Tables.{Rows, edited, opened}
-use Rattle.spu_asm.specs.Cursors.{Sighting, unseen, told, mentioned, placed, labelled, told_by, spot_at, sighting_spot}
+use Rattle.spu_asm.specs.Histories.{History, Spot, same, is_among, current, size_in, common_spot, reach, relocation_names, seen, seen_all, named_by}
+use Rattle.spu_asm.specs.Tables.{Distinct, Rows, edited, opened}
+use Rattle.spu_asm.specs.Summaries.{enter, tabled, itself, sighting_in, Sighting, spot_at, sighting_spot}
+use Rattle.spu_asm.specs.Cursors.{unseen, told, mentioned, placed, labelled, told_by}
+use Rattle.spu_asm.proofs.Standing.{Tells}
 use Rattle.spu_asm.proofs.JoinTables.{same_sym, either_not, not_seen, seen_distinct, found, among_found, found_key, value_found, turned, edited_tabled}
 
 map_itself : (ms : List Name) → map itself ms ≡ ms

@@ -1,26 +1,26 @@
 -- What the code keeps stands for the statements that it accepted.
-use Rattle.std.proofs.Common.{◌≡◌, Bool, true, false, List, [], ◌∷◌, codes, refl, sym, ap, subst, ◌∙◌, inl, inr}
-use Rattle.std.specs.Prelude.{◌||◌, not, is_some}
+use Rattle.std.proofs.Common.{◌≡◌, true, false, List, [], ◌∷◌, codes, refl, sym, ap, subst, ◌∙◌, inl, inr}
 use Rattle.std.proofs.lemmas.Bool.{cases_Bool}
 use Rattle.spu_elf.specs.declared.objects.SecKind.{SecKind}
 use Rattle.spu_elf.specs.declared.objects.SecKind.TheVariants as kinds
-use Rattle.spu_asm.specs.Standing.{heading_names, draft_in, Drafts, IsAtHome, Holds}
 use Rattle.spu_asm.specs.Statements.{Name, Effect, section, may_be_common, common}
-use Rattle.spu_asm.specs.Histories.{History, Heading, heading, same, is_among, current, home_after, size_in, opened_all, headings, needs, needed, target_of, allowed_by, symbol_names, enter}
-use Rattle.spu_asm.specs.Tables.{Rows, value_in, edited, opened}
-use Rattle.spu_asm.specs.Cursors.{Draft, blank, grown_by, opened_headings, size_at, labelled, told_by}
-use Rattle.spu_asm.specs.Accepting.{Cursor, begun, label_needs, common_at, local_by, accepted_at}
+use Rattle.spu_asm.specs.Histories.{History, Entry, Heading, heading, same, is_among, current, home_after, size_in, opened_all, headings, needs, needed, target_of, allowed_by, seen, seen_all, symbol_names, local_names}
+use Rattle.spu_asm.specs.Tables.{Rows, edited, opened}
+use Rattle.spu_asm.specs.Summaries.{enter, Draft, Sighting, Cursor, draft_in, tabled, itself, summary, size_at}
+use Rattle.spu_asm.specs.Cursors.{blank, grown_by, opened_headings, labelled, told_by, begun, label_needs, common_at, local_by, accepted_at}
+use Rattle.spu_asm.specs.Progressing.{IsMade}
+use Rattle.spu_asm.proofs.Standing.{heading_names, Drafts, IsAtHome, Holds}
 use Rattle.spu_asm.proofs.JoinTables.{same_is, same_self, neither}
 use Rattle.spu_asm.proofs.JoinSymbols.{common_place, label_place, symbols_step}
 use Rattle.spu_asm.proofs.JoinSections.{open_all, not_opened_all}
-use Rattle.spu_asm.proofs.JoinDrafts.{not_needed, drafts_step, size_told}
+use Rattle.spu_asm.proofs.JoinDrafts.{AreKept, not_needed, drafts_step, size_told}
 
-pub begins : Holds [] begun
+begins : Holds [] begun
 begins = record {
   current = refl;
   sections = record { entries = refl; distinct = tt; fresh = λ x h. blank_in x.kind x.name };
   symbols = record { entries = refl; distinct = tt; fresh = λ n h. refl };
-  locals = λ n. refl;
+  locals = refl;
   at_home = λ h. refl;
 }
   where
@@ -32,28 +32,19 @@ begins = record {
 
 -- ---- the names that `.comm` may take
 
-either_true : (b : Bool) → (b || true) ≡ true
-either_true true = refl
-either_true false = refl
+abbrev listed : List Name → Rows (Unit {0})
+listed ns = tabled itself (λ n. tt) ns
 
-opened_local : (t : Rows (Unit {0})) (m n : Name) → is_some (value_in (opened t m tt) n) ≡ (same n m || is_some (value_in t n))
-opened_local [] m n = elim (cases_Bool (same n m)) [ inl is ↦ rw is refl | inr not ↦ rw not refl ]
-opened_local (e ∷ es) m n = elim (cases_Bool (same n e.0)) [
-  | inl is ↦ elim (cases_Bool (same m e.0)) [
-    | inl old ↦ rw (old, is) (sym (either_true (same n m)))
-    | inr new ↦ rw (new, is) (sym (either_true (same n m)))
-  ]
-  | inr not ↦ elim (cases_Bool (same m e.0)) [
-    | inl old ↦
-        let is_m : same n m ≡ false = ap (same n) (same_is m e.0 old) ∙ not in
-        rw (old, not, is_m) refl
-    | inr new ↦ rw (new, not) (opened_local es m n)
-  ]
+opened_local : (ns : List Name) (m : Name) → opened (listed ns) m tt ≡ listed (seen ns m)
+opened_local [] m = refl
+opened_local (n ∷ ns) m = elim (cases_Bool (same m n)) [
+  | inl is ↦ rw is refl
+  | inr not ↦ rw not (ap (λ (t : Rows (Unit {0})). (n, tt) ∷ t) (opened_local ns m))
 ]
 
-locals_step : (e : Effect) (t : Rows (Unit {0})) (n : Name) → is_some (value_in (local_by e t) n) ≡ (allowed_by e n || is_some (value_in t n))
-locals_step (may_be_common m) t n = opened_local t m n
-locals_step _ t n = refl
+locals_step : (e : Effect) (ns : List Name) → local_by e (listed ns) ≡ listed (seen_all ns (allowed_by e))
+locals_step (may_be_common m) ns = opened_local ns m
+locals_step _ ns = refl
 
 -- ---- the section in which the next statement stands
 
@@ -99,14 +90,39 @@ after_is h ls e c p =
     let bss : common_at e t ≡ common_place e h = common_is h e t (size_told h xs t (codes ".bss") d) in
     rw (p.current, opened_is c.sections (current h) ls e, size, more, bss) refl
 
+kept : (h : History) (c : Cursor) → Holds h c → AreKept h
+kept h c p = record { entries = refl; distinct = p.sections.distinct; fresh = p.sections.fresh }
+
 after_holds : (h : History) (ls : List Name) (e : Effect) (c : Cursor) → Holds h c → Holds (enter h ls e ∷ h) (After h ls e c)
 after_holds h ls e c p = record {
   current = refl;
-  sections = drafts_step h ls e (opened_headings c.sections (needed (current h) ls e)) p.at_home (opened_drafts h ls e c p) p.sections.fresh;
+  sections = drafts_step h ls e (opened_headings c.sections (needed (current h) ls e)) (kept h c p) p.at_home (opened_drafts h ls e c p) p.sections.fresh;
   symbols = symbols_step h ls e (symbol_names h) c.symbols p.symbols;
-  locals = λ n. locals_step e c.locals n ∙ ap (λ b. allowed_by e n || b) (p.locals n);
+  locals = ap (local_by e) p.locals ∙ locals_step e (local_names h);
   at_home = goes_home h ls e p.at_home;
 }
 
-pub step : (h : History) (c : Cursor) (ls : List Name) (e : Effect) → Holds h c → Holds (enter h ls e ∷ h) (accepted_at c ls e)
+step : (h : History) (c : Cursor) (ls : List Name) (e : Effect) → Holds h c → Holds (enter h ls e ∷ h) (accepted_at c ls e)
 step h c ls e p = subst (Holds (enter h ls e ∷ h)) (sym (after_is h ls e c p)) (after_holds h ls e c p)
+
+-- ---- **what is kept is what the statements come to**
+
+whole : (a b : Name) (ss ts : Rows Draft) (xs ys : Rows Sighting) (us vs : Rows (Unit {0})) → a ≡ b → ss ≡ ts → xs ≡ ys → us ≡ vs → ◌≡◌ {A = Cursor} (record { current = a; sections = ss; symbols = xs; locals = us }) (record { current = b; sections = ts; symbols = ys; locals = vs })
+whole a b ss ts xs ys us vs d e f g = cc
+
+is_summary : (h : History) (c : Cursor) → Holds h c → c ≡ summary h
+is_summary h c p = whole c.current _ c.sections _ c.symbols _ c.locals _ p.current p.sections.entries p.symbols.entries p.locals
+
+pub stands : (h : History) → IsMade h → Holds h (summary h)
+stands [] m = begins
+stands (e ∷ h) m =
+    let p : Holds (enter h e.labels e.effect ∷ h) (accepted_at (summary h) e.labels e.effect) = step h (summary h) e.labels e.effect (stands h m.1) in
+    let q : Holds (enter h e.labels e.effect ∷ h) (summary (enter h e.labels e.effect ∷ h)) = subst (Holds (enter h e.labels e.effect ∷ h)) (is_summary _ _ p) p in
+    subst (λ (x : Entry). Holds (x ∷ h) (summary (x ∷ h))) (sym m.0) q
+
+pub nothing_kept : begun ≡ summary []
+nothing_kept = refl
+
+-- what a statement makes of it
+pub summary_step : (h : History) (ls : List Name) (e : Effect) → IsMade h → accepted_at (summary h) ls e ≡ summary (enter h ls e ∷ h)
+summary_step h ls e m = is_summary _ _ (step h (summary h) ls e (stands h m))

@@ -1,3 +1,4 @@
+pub mod Standing
 pub mod NumeralLemmas
 pub mod NameLemmas
 pub mod JoinTables
@@ -5,8 +6,6 @@ pub mod JoinSymbols
 pub mod JoinSections
 pub mod JoinDrafts
 pub mod Joins
-pub mod JoinFaults
-pub mod JoinObject
 pub mod TableLemmas
 pub mod DraftLemmas
 pub mod SymbolLemmas

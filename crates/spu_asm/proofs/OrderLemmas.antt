@@ -10,11 +10,10 @@ use Rattle.spu_elf.specs.declared.objects.Reloc.{Reloc}
 use Rattle.spu_elf.specs.declared.objects.Object.{Object}
 use Rattle.spu_asm.specs.Statements.{Name, Relocation}
 use Rattle.spu_asm.specs.Histories.{same, is_among}
-use Rattle.spu_asm.specs.Tables.{Rows, index_in, opened, with_values}
-use Rattle.spu_asm.specs.Cursors.{Draft, Sighting}
-use Rattle.spu_asm.specs.Accepting.{is_global_at, is_local_at, ordered_at, reloc_at, relocs_at}
-use Rattle.spu_asm.specs.Assemblers.{chosen, is_chosen, numbered, reloc_with, relocs_with}
-use Rattle.spu_asm.specs.Standing.{Distinct}
+use Rattle.spu_asm.specs.Tables.{Rows, index_in, opened, with_values, Distinct}
+use Rattle.spu_asm.specs.Summaries.{Draft, Sighting}
+use Rattle.spu_asm.specs.Objects.{is_global_at, is_local_at, ordered_at, reloc_at, relocs_at}
+use Rattle.spu_asm.specs.Cursors.{chosen, is_chosen, numbered}
 use Rattle.spu_asm.proofs.TableLemmas.{index_with}
 use Rattle.spu_asm.proofs.JoinTables.{same_sym, neither}
 
@@ -159,15 +158,15 @@ number_is t o p d e f n =
     ∙ numbered_is [] (ordered_at t) (all_new (ordered_at t)) (ordered_apart t (apart t d)) in
     ap (λ (x : Rows (Unit {0})). index_in x n) all ∙ sym (index_with (λ (s : Sighting). tt) (ordered_at t) n)
 
-relocs_same : (p : Rows (Unit {0})) (ts : Rows Sighting) (k : ℕ) (ds : Rows Draft) → ((n : Name) → index_in p n ≡ index_in ts n) → relocs_with p k ds ≡ relocs_at ts k ds
+relocs_same : (p : Rows (Unit {0})) (ts : Rows Sighting) (k : ℕ) (ds : Rows Draft) → ((n : Name) → index_in p n ≡ index_in ts n) → relocs_at p k ds ≡ relocs_at ts k ds
 relocs_same p ts k [] h = refl
 relocs_same p ts k (d ∷ ds) h =
-    let one : (r : Relocation) → reloc_with p k r ≡ reloc_at ts k r = λ r. ap (λ (s : ℕ). record { section = k; offset = r.offset; symbol = s; kind = r.number; addend = r.addend }) (h r.name) in
+    let one : (r : Relocation) → reloc_at p k r ≡ reloc_at ts k r = λ r. ap (λ (s : ℕ). record { section = k; offset = r.offset; symbol = s; kind = r.number; addend = r.addend }) (h r.name) in
     let rest = relocs_same p ts (k + 1) ds h in
-    ap (λ (f : Relocation → Reloc). map f d.1.relocations ++ relocs_with p (k + 1) ds) (fun_ext one) ∙ ap (λ (rs : List Reloc). map (reloc_at ts k) d.1.relocations ++ rs) rest
+    ap (λ (f : Relocation → Reloc). map f d.1.relocations ++ relocs_at p (k + 1) ds) (fun_ext one) ∙ ap (λ (rs : List Reloc). map (reloc_at ts k) d.1.relocations ++ rs) rest
 
 -- the relocations, with the numbers of their symbols
-pub relocs_are : (t : Rows Sighting) (o p : Rows (Unit {0})) (ds : Rows Draft) → Distinct (map (λ (e : Name × Sighting). e.0) t) → o ≡ [] → p ≡ numbered o (ordered_at t) → relocs_with p 0 ds ≡ relocs_at (ordered_at t) 0 ds
+pub relocs_are : (t : Rows Sighting) (o p : Rows (Unit {0})) (ds : Rows Draft) → Distinct (map (λ (e : Name × Sighting). e.0) t) → o ≡ [] → p ≡ numbered o (ordered_at t) → relocs_at p 0 ds ≡ relocs_at (ordered_at t) 0 ds
 relocs_are t o p ds d e f = relocs_same p (ordered_at t) 0 ds (number_is t o p d e f)
 
 pub object_made : (ss ts : List Section) (xs ys : List Symbol) (rs qs : List Reloc) → ss ≡ ts → xs ≡ ys → rs ≡ qs → ◌≡◌ {A = Object} (record { sections = ss; symbols = xs; relocs = rs }) (record { sections = ts; symbols = ys; relocs = qs })

@@ -6,7 +6,8 @@ use Rattle.std.proofs.lemmas.Slice.Eq.{bytes_eq-Decides}
 use Rattle.spu_asm.specs.Statements.{Name, Relocation}
 use Rattle.spu_asm.specs.Histories.{same, relocation_names}
 use Rattle.spu_asm.specs.Tables.{Rows, opened, put}
-use Rattle.spu_asm.specs.Cursors.{Sighting, unseen, state_at, told, mentioned}
+use Rattle.spu_asm.specs.Summaries.{Sighting}
+use Rattle.spu_asm.specs.Cursors.{unseen, state_at, told, mentioned}
 
 same_self : (n : Name) → same n n ≡ true
 same_self n = (bytes_eq-Decides n n).1 refl

@@ -8,7 +8,7 @@ use Rattle.spu_reloc.specs.Fields.{number_of}
 use Rattle.spu_text.specs.Lexemes.{Lexeme}
 use Rattle.spu_asm.specs.Values.{Value, plain, symbol, value_of, parted}
 use Rattle.spu_asm.specs.Operands.{addend_of}
-use Rattle.spu_asm.specs.Statements.{Name, Effect, Relocation, content, effect_of, address_relocation}
+use Rattle.spu_asm.specs.Statements.{Name, Effect, Relocation, moved, content, effect_of, address_relocation}
 use Rattle.spu_asm.specs.declared.faults.AsmKind.{AsmKind}
 use Rattle.spu_asm.specs.declared.faults.AsmKind.TheVariants.{BadDirective, Range}
 use Rattle.spu_asm.specs.declared.statements.Action.{Action}
@@ -56,10 +56,6 @@ one_value width (Some (symbol w n)) = if width == 4 then address_value w (addend
 one_value width _ = Err BadDirective
 
 -- ---- all values
-
-abbrev pub moved : ℕ → List Relocation → List Relocation
-moved at [] = []
-moved at (r ∷ rs) = record r { offset = at + r.offset } ∷ moved at rs
 
 abbrev pub is_far : Values → Bool
 is_far (Err Range) = true

@@ -1,27 +1,24 @@
--- What is kept of the statements so far, and what the next one makes of it.
-use Rattle.std.specs.Prelude.{◌≤◌, unwrap_or, ℕ, ◌+◌, Bool, true, false, max, List, [], ◌∷◌, ◌++◌, length, map, replicate, Option, Some, None, option_map}
+-- What the code keeps of the statements so far, and what the next one makes of it.
+use Rattle.std.specs.Prelude.{ℕ, ◌+◌, ◌≤◌, ◌&&◌, Bool, true, false, max, nat_lt, nat_le, List, [], ◌∷◌, ◌++◌, length, map, filter, replicate, Option, Some, None, option_map, unwrap_or, codes, Result, Ok, Err}
+use Rattle.std.specs.List.{list_all}
 use Rattle.spu_word.specs.Bytes.{be_digits}
 use Rattle.spu_elf.specs.declared.objects.SecKind.{SecKind}
-use Rattle.spu_elf.specs.declared.objects.SymKind.{SymKind}
+use Rattle.spu_elf.specs.declared.objects.SecKind.TheVariants as kinds
 use Rattle.spu_elf.specs.declared.objects.SymKind.TheVariants as names
 use Rattle.spu_asm.specs.declared.sections.Pending.{Pending}
 use Rattle.spu_asm.specs.declared.sections.SectionDraft.{SectionDraft}
 use Rattle.spu_asm.specs.declared.symbols.Spot.{Spot as CodeSpot}
 use Rattle.spu_asm.specs.declared.symbols.SymbolDraft.{SymbolDraft}
 use Rattle.spu_asm.specs.declared.tables.Table.{Table}
-use Rattle.spu_asm.specs.Statements.{Name, Relocation, Effect, instruction, content, space, align, exports, has_kind, ends_here, has_size, common}
-use Rattle.spu_asm.specs.Histories.{Spot, Heading, gap, filling, moved, added_bytes, reach, relocation_names, stored}
+use Rattle.spu_asm.specs.declared.faults.AsmKind.{AsmKind}
+use Rattle.spu_asm.specs.declared.accumulating.Assembler.{Assembler}
+use Rattle.spu_asm.specs.Statements.{Name, Relocation, moved, Effect, instruction, content, space, align, exports, may_be_common, has_kind, ends_here, has_size, common}
+use Rattle.spu_asm.specs.Histories.{Spot, Heading, heading, gap, filling, added_bytes, needs, target_of, home_after, reach, relocation_names, stored}
 use Rattle.spu_asm.specs.Tables.{Rows, rows, value_in, opened, edited, with_values}
+use Rattle.spu_asm.specs.Summaries.{Draft, Sighting, Cursor, size_at}
+use Rattle.spu_asm.specs.Objects.{is_global_at, is_local_at}
 
 -- ---- sections
-
--- A section so far: a Zero section has a size and no bytes.
-pub record Draft : Type 0 where
-  pub kind : SecKind
-  pub align : ℕ
-  pub size : ℕ
-  pub bytes : List ℕ
-  pub relocations : List Relocation
 
 abbrev pub relocation_of_pending : Pending → Relocation
 relocation_of_pending p = record { offset = p.offset; number = p.number; name = p.name.now; addend = p.addend }
@@ -65,28 +62,7 @@ abbrev pub opened_headings : Rows Draft → List Heading → Rows Draft
 opened_headings t [] = t
 opened_headings t (x ∷ xs) = opened_headings (opened_heading t x) xs
 
-abbrev pub draft_kind : Option Draft → Option SecKind
-draft_kind None = None
-draft_kind (Some d) = Some d.kind
-
-abbrev pub draft_size : Option Draft → ℕ
-draft_size None = 0
-draft_size (Some d) = d.size
-
-abbrev pub kind_at : Rows Draft → Name → SecKind → SecKind
-kind_at t n k = elim (draft_kind (value_in t n)) [ Some j ↦ j | None ↦ k ]
-
-abbrev pub size_at : Rows Draft → Name → ℕ
-size_at t n = draft_size (value_in t n)
-
 -- ---- symbols
-
--- A symbol so far.
-pub record Sighting : Type 0 where
-  pub spot : Option Spot
-  pub exported : Bool
-  pub kind : SymKind
-  pub size : ℕ
 
 abbrev pub spot_of_code : CodeSpot → Spot
 spot_of_code s = record { section = s.section.now; offset = s.offset }
@@ -129,9 +105,80 @@ told_by (has_size n size) t at spot = told t n (λ s. record s { size = size })
 told_by (common n size step) t at spot = told t n (λ s. record s { spot = Some spot; size = size })
 told_by _ t at spot = t
 
-abbrev pub sighting_spot : Option Sighting → Option Spot
-sighting_spot None = None
-sighting_spot (Some s) = s.spot
+abbrev pub begun : Cursor
+begun = record { current = codes ".text"; sections = []; symbols = []; locals = [] }
 
-abbrev pub spot_at : Rows Sighting → Name → Option Spot
-spot_at t n = sighting_spot (value_in t n)
+-- ---- a statement is accepted
+
+abbrev pub label_needs : Name → List Name → List Heading
+label_needs home [] = []
+label_needs home (l ∷ ls) = heading home kinds.Code ∷ []
+
+-- labels stand here
+abbrev pub with_labels : List Name → Cursor → Cursor
+with_labels ls c = record c {
+  sections = opened_headings c.sections (label_needs c.current ls);
+  symbols = labelled c.symbols ls (record { section = c.current; offset = size_at c.sections c.current });
+}
+
+-- where a common symbol stands, behind the padding
+abbrev pub common_at : Effect → Rows Draft → Spot
+common_at (common n size step) t = record { section = codes ".bss"; offset = size_at t (codes ".bss") + gap step (size_at t (codes ".bss")) }
+common_at _ t = record { section = codes ".bss"; offset = 0 }
+
+abbrev pub local_by : Effect → Rows (Unit {0}) → Rows (Unit {0})
+local_by (may_be_common n) t = opened t n tt
+local_by _ t = t
+
+-- what an effect does, in sections of which those that it needs are there
+abbrev pub obeyed_in : Effect → Rows Draft → Cursor → Cursor
+obeyed_in e t c = record {
+  current = home_after e c.current;
+  sections = edited t (target_of e c.current) (grown_by e);
+  symbols = told_by e c.symbols (size_at t c.current) (common_at e t);
+  locals = local_by e c.locals;
+}
+
+abbrev pub obeyed : Effect → Cursor → Cursor
+obeyed e c = obeyed_in e (opened_headings c.sections (needs c.current e)) c
+
+abbrev pub accepted_at : Cursor → List Name → Effect → Cursor
+accepted_at c ls e = obeyed e (with_labels ls c)
+
+abbrev pub cursor_of : Assembler → Cursor
+cursor_of a = record { current = a.current.now; sections = drafts a.sections; symbols = sightings a.symbols; locals = rows a.locals }
+
+-- a statement that can't be read changes nothing
+abbrev pub taken_at : Cursor → List Name → Result Effect AsmKind → Cursor
+taken_at c ls (Ok e) = accepted_at c ls e
+taken_at c ls (Err k) = c
+
+-- ---- numbers of 32 bits
+
+abbrev pub is_near : Relocation → Bool
+is_near r = nat_lt r.offset 4294967296
+
+abbrev pub has_near : Name × Draft → Bool
+has_near e = list_all is_near e.1.relocations
+
+abbrev pub is_small : Name × Sighting → Bool
+is_small e = nat_lt e.1.size 4294967296
+
+-- no more sections and symbols than a file has, and numbers of 32 bits
+abbrev pub is_spellable : Cursor → Bool
+is_spellable c = nat_le (length c.sections) 4096 && (nat_le (length c.symbols) 262144 && (list_all is_small c.symbols && list_all has_near c.sections))
+
+-- ---- symbols and their numbers
+
+abbrev pub is_chosen : Bool → Name × Sighting → Bool
+is_chosen true e = is_global_at e
+is_chosen false e = is_local_at e
+
+-- the symbols that are global, or those that aren't
+abbrev pub chosen : Bool → Rows Sighting → Rows Sighting
+chosen global t = filter (is_chosen global) t
+
+-- the names of symbols behind others
+abbrev pub numbered : Rows (Unit {0}) → Rows Sighting → Rows (Unit {0})
+numbered order [] = order
+numbered order (e ∷ es) = numbered (opened order e.0 tt) es

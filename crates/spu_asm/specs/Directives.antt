@@ -17,36 +17,6 @@ use Rattle.spu_asm.specs.declared.faults.AsmKind.TheVariants.{BadDirective}
 use Rattle.spu_asm.specs.declared.directives.Directive.{Directive}
 use Rattle.spu_asm.specs.declared.directives.Directive.TheVariants as directive
 
-abbrev pub name_of : Directive → List ℕ
-name_of directive.Text = codes ".text"
-name_of directive.Data = codes ".data"
-name_of directive.Bss = codes ".bss"
-name_of directive.Section = codes ".section"
-name_of directive.Global = codes ".global"
-name_of directive.Globl = codes ".globl"
-name_of directive.Type = codes ".type"
-name_of directive.Size = codes ".size"
-name_of directive.Align = codes ".align"
-name_of directive.P2align = codes ".p2align"
-name_of directive.Byte = codes ".byte"
-name_of directive.Hword = codes ".hword"
-name_of directive.Short = codes ".short"
-name_of directive.Word = codes ".word"
-name_of directive.Long = codes ".long"
-name_of directive.Int = codes ".int"
-name_of directive.Quad = codes ".quad"
-name_of directive.Octa = codes ".octa"
-name_of directive.Ascii = codes ".ascii"
-name_of directive.Asciz = codes ".asciz"
-name_of directive.String = codes ".string"
-name_of directive.Space = codes ".space"
-name_of directive.Skip = codes ".skip"
-name_of directive.Zero = codes ".zero"
-name_of directive.Local = codes ".local"
-name_of directive.Comm = codes ".comm"
-name_of directive.File = codes ".file"
-name_of directive.Ident = codes ".ident"
-
 -- ---- operands
 
 abbrev pub bad : Meaning
@@ -156,35 +126,42 @@ section_of _ = bad
 
 -- ---- directives
 
+-- the name of a directive, and what it does with its operands
+abbrev pub row_of : Directive → List ℕ × (List Lexeme → Meaning)
+row_of directive.Text = (codes ".text", alone (section (codes ".text") kinds.Code))
+row_of directive.Data = (codes ".data", alone (section (codes ".data") kinds.Vars))
+row_of directive.Bss = (codes ".bss", alone (section (codes ".bss") kinds.Zero))
+row_of directive.Section = (codes ".section", section_of)
+row_of directive.Global = (codes ".global", λ ts. of_some exports (one_symbol ts))
+row_of directive.Globl = (codes ".globl", λ ts. of_some exports (one_symbol ts))
+row_of directive.Type = (codes ".type", type_of)
+row_of directive.Size = (codes ".size", size_of)
+row_of directive.Align = (codes ".align", one_number align_by)
+row_of directive.P2align = (codes ".p2align", one_number align_by)
+row_of directive.Byte = (codes ".byte", λ ts. contents (values_of 1 ts))
+row_of directive.Hword = (codes ".hword", λ ts. contents (values_of 2 ts))
+row_of directive.Short = (codes ".short", λ ts. contents (values_of 2 ts))
+row_of directive.Word = (codes ".word", λ ts. contents (values_of 4 ts))
+row_of directive.Long = (codes ".long", λ ts. contents (values_of 4 ts))
+row_of directive.Int = (codes ".int", λ ts. contents (values_of 4 ts))
+row_of directive.Quad = (codes ".quad", λ ts. contents (values_of 8 ts))
+row_of directive.Octa = (codes ".octa", λ ts. contents (values_of 16 ts))
+row_of directive.Ascii = (codes ".ascii", one_text ([]))
+row_of directive.Asciz = (codes ".asciz", one_text (0 ∷ []))
+row_of directive.String = (codes ".string", one_text (0 ∷ []))
+row_of directive.Space = (codes ".space", one_number space_by)
+row_of directive.Skip = (codes ".skip", one_number space_by)
+row_of directive.Zero = (codes ".zero", one_number space_by)
+row_of directive.Local = (codes ".local", λ ts. of_some may_be_common (one_symbol ts))
+row_of directive.Comm = (codes ".comm", common_of)
+row_of directive.File = (codes ".file", λ ts. Ok nothing)
+row_of directive.Ident = (codes ".ident", λ ts. Ok nothing)
+
+abbrev pub name_of : Directive → List ℕ
+name_of d = (row_of d).0
+
 unfoldable pub meaning_of : Directive → List Lexeme → Meaning
-meaning_of directive.Text ts = alone (section (codes ".text") kinds.Code) ts
-meaning_of directive.Data ts = alone (section (codes ".data") kinds.Vars) ts
-meaning_of directive.Bss ts = alone (section (codes ".bss") kinds.Zero) ts
-meaning_of directive.Section ts = section_of ts
-meaning_of directive.Global ts = of_some exports (one_symbol ts)
-meaning_of directive.Globl ts = of_some exports (one_symbol ts)
-meaning_of directive.Type ts = type_of ts
-meaning_of directive.Size ts = size_of ts
-meaning_of directive.Align ts = one_number align_by ts
-meaning_of directive.P2align ts = one_number align_by ts
-meaning_of directive.Byte ts = contents (values_of 1 ts)
-meaning_of directive.Hword ts = contents (values_of 2 ts)
-meaning_of directive.Short ts = contents (values_of 2 ts)
-meaning_of directive.Word ts = contents (values_of 4 ts)
-meaning_of directive.Long ts = contents (values_of 4 ts)
-meaning_of directive.Int ts = contents (values_of 4 ts)
-meaning_of directive.Quad ts = contents (values_of 8 ts)
-meaning_of directive.Octa ts = contents (values_of 16 ts)
-meaning_of directive.Ascii ts = one_text ([]) ts
-meaning_of directive.Asciz ts = one_text (0 ∷ []) ts
-meaning_of directive.String ts = one_text (0 ∷ []) ts
-meaning_of directive.Space ts = one_number space_by ts
-meaning_of directive.Skip ts = one_number space_by ts
-meaning_of directive.Zero ts = one_number space_by ts
-meaning_of directive.Local ts = of_some may_be_common (one_symbol ts)
-meaning_of directive.Comm ts = common_of ts
-meaning_of directive.File ts = Ok nothing
-meaning_of directive.Ident ts = Ok nothing
+meaning_of d ts = (row_of d).1 ts
 
 abbrev pub all_directives : List Directive
 all_directives =

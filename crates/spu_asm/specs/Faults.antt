@@ -5,7 +5,9 @@ use Rattle.spu_elf.specs.declared.objects.SecKind.TheVariants as kinds
 use Rattle.spu_asm.specs.declared.faults.AsmKind.{AsmKind}
 use Rattle.spu_asm.specs.declared.faults.AsmKind.TheVariants as asm
 use Rattle.spu_asm.specs.Statements.{Name, Effect, Stmt, instruction, content, align, ends_here, has_size, common}
-use Rattle.spu_asm.specs.Histories.{History, Spot, same, is_among, current, here, spot_of, kind_among, headings, gap, target_kind, target_place, new_bytes, may_be_common_in, enter}
+use Rattle.spu_asm.specs.Histories.{History, Spot, same, is_among, gap}
+use Rattle.spu_asm.specs.Tables.{Rows, value_in}
+use Rattle.spu_asm.specs.Summaries.{Sighting, Cursor, summary, size_at, spot_at, kind_here, target_kind_at, target_place_at, new_bytes, enter}
 
 -- the number in a fault's name
 abbrev pub number_of : AsmKind → ℕ
@@ -29,18 +31,6 @@ lesser (Some a) (Some b) = if nat_lt (number_of b) (number_of a) then Some b els
 abbrev pub when_ : Bool → AsmKind → Option AsmKind
 when_ b k = if b then Some k else None
 
--- ---- A7
-
--- a label that is there already, or stands twice
-abbrev pub clashes : History → List Name → Bool
-clashes h [] = false
-clashes h (l ∷ ls) = is_some (spot_of h l) || is_among ls l || clashes h ls
-
--- a common symbol is a label
-abbrev pub clashes_by : History → List Name → Effect → Bool
-clashes_by h labels (common n size step) = is_some (spot_of h n) || is_among labels n
-clashes_by h labels _ = false
-
 -- ---- A8
 
 abbrev pub is_code : SecKind → Bool
@@ -51,46 +41,51 @@ abbrev pub is_zero : SecKind → Bool
 is_zero kinds.Zero = true
 is_zero _ = false
 
--- where a name is a label, for a statement with these labels
-abbrev pub spot_with : History → List Name → Name → Option Spot
-spot_with h labels n = if is_among labels n then Some (record { section = current h; offset = here h }) else spot_of h n
-
--- whether the label is in the current section
-abbrev pub is_here : History → Option Spot → Bool
-is_here h None = false
-is_here h (Some s) = same s.section (current h)
-
 -- a padding in code begins at a multiple of 4
 abbrev pub is_misplaced : SecKind → ℕ → ℕ → Bool
 is_misplaced kind at step = is_code kind && not (at % 4 == 0) && not (gap step at == 0)
 
-abbrev pub is_against_rules : History → List Name → Effect → Bool
-is_against_rules h labels (instruction w ns rs) = not (is_code (kind_among (headings h) (current h)))
-is_against_rules h labels (content bs rs) = is_zero (kind_among (headings h) (current h))
-is_against_rules h labels (align step) = is_misplaced (target_kind h (align step)) (here h) step
-is_against_rules h labels (ends_here n) = not (is_here h (spot_with h labels n))
-is_against_rules h labels (has_size n size) = is_none (spot_with h labels n)
-is_against_rules h labels (common n size step) = not (may_be_common_in h n) || is_misplaced (target_kind h (common n size step)) (target_place h (common n size step)) step
-is_against_rules h labels _ = false
-
--- ---- A9
-
-abbrev pub is_too_large : History → Effect → Bool
-is_too_large h e = nat_lt 262144 (target_place h e + length (new_bytes h e))
-
 -- ---- one statement
 
--- what is wrong with an effect at its place, behind these labels
-abbrev pub effect_fault : History → List Name → Effect → Option AsmKind
-effect_fault h labels e = lesser (when_ (clashes_by h labels e) asm.DuplicateLabel) (lesser (when_ (is_against_rules h labels e) asm.BadDirective) (when_ (is_too_large h e) asm.SectionTooLarge))
+-- a label that is there already, or stands twice
+abbrev pub clashes_at : Rows Sighting → List Name → Bool
+clashes_at t [] = false
+clashes_at t (l ∷ ls) = is_some (spot_at t l) || is_among ls l || clashes_at t ls
 
-abbrev pub read_fault : History → List Name → Result Effect AsmKind → Option AsmKind
-read_fault h labels (Ok e) = effect_fault h labels e
-read_fault h labels (Err k) = Some k
+-- a common symbol is a label
+abbrev pub clashes_by_at : Rows Sighting → List Name → Effect → Bool
+clashes_by_at t ls (common n size step) = is_some (spot_at t n) || is_among ls n
+clashes_by_at t ls _ = false
+
+abbrev pub is_in : Name → Option Spot → Bool
+is_in home None = false
+is_in home (Some s) = same s.section home
+
+abbrev pub is_here_at : Cursor → List Name → Name → Bool
+is_here_at c ls n = is_among ls n || is_in c.current (spot_at c.symbols n)
+
+abbrev pub is_against_rules_at : Cursor → List Name → Effect → Bool
+is_against_rules_at c ls (instruction w ns rs) = not (is_code (kind_here c))
+is_against_rules_at c ls (content bs rs) = is_zero (kind_here c)
+is_against_rules_at c ls (align step) = is_misplaced (kind_here c) (size_at c.sections c.current) step
+is_against_rules_at c ls (ends_here n) = not (is_here_at c ls n)
+is_against_rules_at c ls (has_size n size) = not (is_among ls n) && is_none (spot_at c.symbols n)
+is_against_rules_at c ls (common n size step) = is_none (value_in c.locals n) || is_misplaced (target_kind_at c (common n size step)) (target_place_at c (common n size step)) step
+is_against_rules_at c ls _ = false
+
+abbrev pub is_too_large_at : Cursor → Effect → Bool
+is_too_large_at c e = nat_lt 262144 (target_place_at c e + length (new_bytes c e))
+
+abbrev pub effect_fault_at : Cursor → List Name → Effect → Option AsmKind
+effect_fault_at c ls e = lesser (when_ (clashes_by_at c.symbols ls e) asm.DuplicateLabel) (lesser (when_ (is_against_rules_at c ls e) asm.BadDirective) (when_ (is_too_large_at c e) asm.SectionTooLarge))
+
+abbrev pub read_fault_at : Cursor → List Name → Result Effect AsmKind → Option AsmKind
+read_fault_at c ls (Ok e) = effect_fault_at c ls e
+read_fault_at c ls (Err k) = Some k
 
 -- the least fault of a statement behind these
-abbrev pub fault_in : History → Stmt → Option AsmKind
-fault_in h s = lesser (when_ (clashes h s.labels) asm.DuplicateLabel) (read_fault h s.labels s.effect)
+abbrev pub fault_at : Cursor → Stmt → Option AsmKind
+fault_at c s = lesser (when_ (clashes_at c.symbols s.labels) asm.DuplicateLabel) (read_fault_at c s.labels s.effect)
 
 -- ---- all statements
 
@@ -112,7 +107,7 @@ judged r s None = accepted r s s.effect
 judged r s (Some k) = record r { faults = record { line = s.line; kind = k } ∷ r.faults }
 
 abbrev pub after : Run → Stmt → Run
-after r s = judged r s (fault_in r.history s)
+after r s = judged r s (fault_at (summary r.history) s)
 
 abbrev pub nothing_yet : Run
 nothing_yet = record { history = []; faults = [] }

@@ -8,7 +8,7 @@ use Rattle.spu_elf.specs.declared.objects.SecKind.{SecKind}
 use Rattle.spu_elf.specs.declared.objects.SecKind.TheVariants as kinds
 use Rattle.spu_elf.specs.declared.objects.SymKind.{SymKind}
 use Rattle.spu_elf.specs.declared.objects.SymKind.TheVariants as names
-use Rattle.spu_asm.specs.Statements.{Name, Relocation, Effect, instruction, content, space, align, section, exports, may_be_common, has_kind, ends_here, has_size, common}
+use Rattle.spu_asm.specs.Statements.{Name, Relocation, moved, Effect, instruction, content, space, align, section, exports, may_be_common, has_kind, ends_here, has_size, common}
 
 -- An accepted statement: the section in which it stands, its labels, what it does, and the bytes that it adds.
 pub record Entry : Type 0 where
@@ -52,10 +52,6 @@ abbrev pub bytes_in : Name → History → List ℕ
 bytes_in k [] = []
 bytes_in k (e ∷ h) = bytes_in k h ++ (if same k (target_of e.effect e.home) then e.bytes else [])
 
--- the place of the next byte
-abbrev pub here : History → ℕ
-here h = size_in (current h) h
-
 pub record Heading : Type 0 where
   pub name : Name
   pub kind : SecKind
@@ -91,16 +87,6 @@ opened_all ys (x ∷ xs) = opened_all (opened ys x) xs
 abbrev pub headings : History → List Heading
 headings [] = []
 headings (e ∷ h) = opened_all (headings h) (needed e.home e.labels e.effect)
-
--- the kind of a section; one that isn't there yet is `.text`
-abbrev pub kind_among : List Heading → Name → SecKind
-kind_among [] n = kinds.Code
-kind_among (x ∷ xs) n = if same n x.name then x.kind else kind_among xs n
-
--- `.comm` makes `.bss`, where there is none
-abbrev pub kind_or : SecKind → List Heading → Name → SecKind
-kind_or k [] n = k
-kind_or k (x ∷ xs) n = if same n x.name then x.kind else kind_or k xs n
 
 -- the alignment that an effect asks of the section that it adds to, or 0
 abbrev pub asked : Effect → ℕ
@@ -138,21 +124,6 @@ added_bytes kind at (align step) = filling kind (gap step at)
 added_bytes kind at (common n size step) = filling kind (gap step at) ++ replicate size 0
 added_bytes kind at _ = []
 
--- the kind of the section whose bytes an effect's are, behind these statements
-abbrev pub target_kind : History → Effect → SecKind
-target_kind h (common n size step) = kind_or kinds.Zero (headings h) (codes ".bss")
-target_kind h e = kind_among (headings h) (current h)
-
-abbrev pub target_place : History → Effect → ℕ
-target_place h e = size_in (target_of e (current h)) h
-
-abbrev pub new_bytes : History → Effect → List ℕ
-new_bytes h e = added_bytes (target_kind h e) (target_place h e) e
-
--- the statement behind these
-abbrev pub enter : History → List Name → Effect → Entry
-enter h labels e = record { home = current h; labels = labels; effect = e; bytes = new_bytes h e }
-
 -- ---- symbols
 
 -- A place in a section.
@@ -185,14 +156,6 @@ exported_by _ n = false
 abbrev pub is_exported : History → Name → Bool
 is_exported [] n = false
 is_exported (e ∷ h) n = exported_by e.effect n || is_exported h n
-
-abbrev pub allowed_by : Effect → Name → Bool
-allowed_by (may_be_common m) n = same n m
-allowed_by _ n = false
-
-abbrev pub may_be_common_in : History → Name → Bool
-may_be_common_in [] n = false
-may_be_common_in (e ∷ h) n = allowed_by e.effect n || may_be_common_in h n
 
 abbrev pub kind_by : Effect → Name → SymKind → SymKind
 kind_by (has_kind m k) n before = if same n m then k else before
@@ -248,16 +211,21 @@ abbrev pub symbol_names : History → List Name
 symbol_names [] = []
 symbol_names (e ∷ h) = seen_all (seen_all (symbol_names h) e.labels) (named_by e.effect)
 
+abbrev pub allowed_by : Effect → List Name
+allowed_by (may_be_common n) = n ∷ []
+allowed_by _ = []
+
+-- the names that `.comm` may take
+abbrev pub local_names : History → List Name
+local_names [] = []
+local_names (e ∷ h) = seen_all (local_names h) (allowed_by e.effect)
+
 -- ---- relocations
 
 abbrev pub relocations_by : Effect → List Relocation
 relocations_by (instruction w ns rs) = rs
 relocations_by (content bs rs) = rs
 relocations_by _ = []
-
-abbrev pub moved : ℕ → List Relocation → List Relocation
-moved at [] = []
-moved at (r ∷ rs) = record r { offset = at + r.offset } ∷ moved at rs
 
 -- those of a section, in order of their places
 abbrev pub relocations_in : Name → History → List Relocation

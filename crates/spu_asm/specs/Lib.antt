@@ -6,13 +6,11 @@ pub mod Operands
 pub mod Encoding
 pub mod Statements
 pub mod Histories
+pub mod Tables
+pub mod Summaries
 pub mod Faults
 pub mod Objects
-pub mod Tables
 pub mod Cursors
-pub mod Accepting
-pub mod Assemblers
-pub mod Standing
 pub mod Quotes
 pub mod Contents
 pub mod Directives

@@ -1,5 +1,5 @@
 -- The object of a history: its sections, its symbols, locals before globals, and its relocations.
-use Rattle.std.specs.Prelude.{ℕ, ◌+◌, ◌||◌, Bool, not, if◌then◌else◌, List, [], ◌∷◌, ◌++◌, map, filter, Option, Some, None, is_none}
+use Rattle.std.specs.Prelude.{ℕ, ◌+◌, ◌||◌, Bool, not, List, [], ◌∷◌, ◌++◌, map, filter, Option, Some, None, is_none}
 use Rattle.spu_elf.specs.declared.objects.Object.{Object}
 use Rattle.spu_elf.specs.declared.objects.Section.{Section}
 use Rattle.spu_elf.specs.declared.objects.Symbol.{Symbol}
@@ -7,49 +7,49 @@ use Rattle.spu_elf.specs.declared.objects.SymPlace.{SymPlace}
 use Rattle.spu_elf.specs.declared.objects.SymPlace.TheVariants as places
 use Rattle.spu_elf.specs.declared.objects.Reloc.{Reloc}
 use Rattle.spu_asm.specs.Statements.{Name, Relocation}
-use Rattle.spu_asm.specs.Histories.{History, Heading, Spot, same, stored, headings, size_in, bytes_in, align_in, spot_of, is_exported, kind_in, symbol_size, symbol_names, relocations_in}
-
-abbrev pub section_of : History → Heading → Section
-section_of h x = record { name = x.name; kind = x.kind; align = align_in x.name h; size = size_in x.name h; bytes = stored x.kind (bytes_in x.name h) }
-
--- the place of a name in a list, or the list's length
-abbrev pub section_index : List Heading → Name → ℕ
-section_index [] n = 0
-section_index (x ∷ xs) n = if same n x.name then 0 else section_index xs n + 1
-
-abbrev pub name_index : List Name → Name → ℕ
-name_index [] n = 0
-name_index (m ∷ ms) n = if same n m then 0 else name_index ms n + 1
-
--- an undefined symbol is global
-abbrev pub is_global : History → Name → Bool
-is_global h n = is_exported h n || is_none (spot_of h n)
-
-abbrev pub is_local : History → Name → Bool
-is_local h n = not (is_global h n)
-
--- locals, then globals
-abbrev pub ordered_names : History → List Name
-ordered_names h = filter (is_local h) (symbol_names h) ++ filter (is_global h) (symbol_names h)
-
-abbrev pub place_of : List Heading → Option Spot → SymPlace
-place_of xs None = places.Undefined
-place_of xs (Some s) = places.Inside (section_index xs s.section)
+use Rattle.spu_asm.specs.Histories.{History, Spot}
+use Rattle.spu_asm.specs.Tables.{Rows, index_in}
+use Rattle.spu_asm.specs.Summaries.{Draft, Sighting, Cursor, summary}
 
 abbrev pub value_of : Option Spot → ℕ
 value_of None = 0
 value_of (Some s) = s.offset
 
-abbrev pub symbol_of : History → Name → Symbol
-symbol_of h n = record { name = n; value = value_of (spot_of h n); size = symbol_size h n; kind = kind_in h n; global = is_global h n; place = place_of (headings h) (spot_of h n) }
+abbrev pub section_at : Name × Draft → Section
+section_at e = record { name = e.0; kind = e.1.kind; align = e.1.align; size = e.1.size; bytes = e.1.bytes }
 
-abbrev pub reloc_of : History → ℕ → Relocation → Reloc
-reloc_of h k r = record { section = k; offset = r.offset; symbol = name_index (ordered_names h) r.name; kind = r.number; addend = r.addend }
+-- an undefined symbol is global
+abbrev pub is_global_at : Name × Sighting → Bool
+is_global_at e = e.1.exported || is_none e.1.spot
+
+abbrev pub is_local_at : Name × Sighting → Bool
+is_local_at e = not (is_global_at e)
+
+-- locals, then globals
+abbrev pub ordered_at : Rows Sighting → Rows Sighting
+ordered_at t = filter is_local_at t ++ filter is_global_at t
+
+abbrev pub place_at : Rows Draft → Option Spot → SymPlace
+place_at t None = places.Undefined
+place_at t (Some s) = places.Inside (index_in t s.section)
+
+abbrev pub symbol_at : Rows Draft → Name × Sighting → Symbol
+symbol_at t e = record { name = e.0; value = value_of e.1.spot; size = e.1.size; kind = e.1.kind; global = is_global_at e; place = place_at t e.1.spot }
+
+abbrev pub reloc_at : {T : Type 0} → Rows T → ℕ → Relocation → Reloc
+reloc_at order k r = record { section = k; offset = r.offset; symbol = index_in order r.name; kind = r.number; addend = r.addend }
 
 -- those of the sections from number k on
-abbrev pub relocs_from : History → ℕ → List Heading → List Reloc
-relocs_from h k [] = []
-relocs_from h k (x ∷ xs) = map (reloc_of h k) (relocations_in x.name h) ++ relocs_from h (k + 1) xs
+abbrev pub relocs_at : {T : Type 0} → Rows T → ℕ → Rows Draft → List Reloc
+relocs_at order k [] = []
+relocs_at order k (e ∷ es) = map (reloc_at order k) e.1.relocations ++ relocs_at order (k + 1) es
+
+abbrev pub object_at : Cursor → Object
+object_at c = record {
+  sections = map section_at c.sections;
+  symbols = map (symbol_at c.sections) (ordered_at c.symbols);
+  relocs = relocs_at (ordered_at c.symbols) 0 c.sections;
+}
 
 abbrev pub object_of : History → Object
-object_of h = record { sections = map (section_of h) (headings h); symbols = map (symbol_of h) (ordered_names h); relocs = relocs_from h 0 (headings h) }
+object_of h = object_at (summary h)

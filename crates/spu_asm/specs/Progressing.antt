@@ -1,12 +1,12 @@
 -- What the code has of the statements so far, and what it makes of all of them.
-use Rattle.std.specs.Prelude.{◌≡◌, [], Some, None, option_map}
+use Rattle.std.specs.Prelude.{◌≡◌, [], ◌∷◌, Some, None, option_map}
 use Rattle.spu_elf.specs.Validity.{IsValid}
 use Rattle.spu_asm.specs.Statements.{Name}
 use Rattle.spu_asm.specs.Histories.{History, spot_of, symbol_size}
 use Rattle.spu_asm.specs.Faults.{Fault, Run, first_fault}
 use Rattle.spu_asm.specs.Objects.{object_of}
-use Rattle.spu_asm.specs.Assemblers.{cursor_of}
-use Rattle.spu_asm.specs.Standing.{Holds}
+use Rattle.spu_asm.specs.Summaries.{summary, enter}
+use Rattle.spu_asm.specs.Cursors.{cursor_of}
 use Rattle.spu_asm.specs.declared.progress.LineFault.{LineFault}
 use Rattle.spu_asm.specs.declared.progress.Progress.{Progress}
 use Rattle.spu_asm.specs.declared.progress.Outcome.{Outcome}
@@ -19,9 +19,15 @@ fault_of f = record { line = f.line; kind = f.kind }
 abbrev pub IsSizedHistory : History → Type 0
 IsSizedHistory h = (n : Name) → spot_of h n ≡ None → symbol_size h n ≡ 0
 
+-- each entry is what its statement makes behind those before it
+abbrev pub IsMade : History → Type 0
+IsMade [] = Unit {0}
+IsMade (e ∷ h) = (e ≡ enter h e.labels e.effect) × IsMade h
+
 -- the code stands for these statements
 pub record InRun (r : Run) (p : Progress) : Type 0 where
-  pub holds : Holds r.history (cursor_of p.assembler)
+  pub kept : cursor_of p.assembler ≡ summary r.history
+  pub made : IsMade r.history
   pub sized : IsSizedHistory r.history
   pub worst : option_map fault_of p.worst ≡ first_fault r.faults
 

@@ -1,5 +1,5 @@
 -- Statements as definitions see them: the labels in front, and what the statement does behind them.
-use Rattle.std.specs.Prelude.{ℕ, List, [], ◌∷◌, ◌++◌, map, Option, Some, None, option_map, Result, Ok, Err, ℤ}
+use Rattle.std.specs.Prelude.{ℕ, ◌+◌, List, [], ◌∷◌, ◌++◌, map, Option, Some, None, option_map, Result, Ok, Err, ℤ}
 use Rattle.std.specs.Borrow.{Bor}
 use Rattle.spu_elf.specs.declared.objects.SecKind.{SecKind}
 use Rattle.spu_elf.specs.declared.objects.SymKind.{SymKind}
@@ -24,6 +24,10 @@ pub record Relocation : Type 0 where
   pub number : ℕ
   pub name : Name
   pub addend : ℤ
+
+abbrev pub moved : ℕ → List Relocation → List Relocation
+moved at [] = []
+moved at (r ∷ rs) = record r { offset = at + r.offset } ∷ moved at rs
 
 -- what a statement does behind its labels
 pub data Effect : Type 0 where

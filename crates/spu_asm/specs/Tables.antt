@@ -1,7 +1,7 @@
 -- Values by name, in the order in which the names came.
-use Rattle.std.specs.Prelude.{ℕ, ◌+◌, if◌then◌else◌, List, [], ◌∷◌, map, position, Option, Some, None}
+use Rattle.std.specs.Prelude.{◌≡◌, ℕ, ◌+◌, false, if◌then◌else◌, List, [], ◌∷◌, map, position, Option, Some, None}
 use Rattle.spu_asm.specs.Statements.{Name}
-use Rattle.spu_asm.specs.Histories.{same}
+use Rattle.spu_asm.specs.Histories.{same, is_among}
 use Rattle.spu_asm.specs.declared.tables.Table.{Table}
 
 abbrev pub Rows : Type 0 → Type 0
@@ -40,3 +40,8 @@ put (e ∷ es) n v = if same n e.0 then (e.0, v) ∷ es else e ∷ put es n v
 abbrev pub index_in : {T : Type 0} → Rows T → Name → ℕ
 index_in [] n = 0
 index_in (e ∷ es) n = if same n e.0 then 0 else index_in es n + 1
+
+-- each name stands once
+abbrev pub Distinct : List Name → Type 0
+Distinct [] = Unit {0}
+Distinct (m ∷ ms) = (is_among ms m ≡ false) × Distinct ms

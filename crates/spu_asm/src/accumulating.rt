@@ -4,11 +4,10 @@ ghost use Rattle.std.specs.Prelude.{◌≡◌, ℕ, ◌+◌, ◌<◌, ◌^◌, i
 ghost use Rattle.spu_elf.specs.declared.objects.SecKind.TheVariants as kinds;
 ghost use Rattle.spu_asm.specs.Statements.{stmt_of, effect_of, result_of};
 ghost use Rattle.spu_asm.specs.Histories.{gap, added_bytes, needs, target_of, home_after, is_among};
-ghost use Rattle.spu_asm.specs.Faults.{lesser, when_, number_of, is_code, is_zero, is_misplaced};
 ghost use Rattle.spu_asm.specs.Tables.{value_in};
-ghost use Rattle.spu_asm.specs.Cursors.{Fits, opened_headings, kind_at, size_at, spot_of_code, spot_at};
-ghost use Rattle.spu_asm.specs.Accepting.{begun, label_needs, with_labels, common_at, local_by, obeyed_in, obeyed, accepted_at, is_in, clashes_at, clashes_by_at, kind_here, target_kind_at, target_place_at, is_here_at, is_against_rules_at, is_too_large_at, effect_fault_at, read_fault_at, fault_at};
-ghost use Rattle.spu_asm.specs.Assemblers.{cursor_of, taken_at};
+ghost use Rattle.spu_asm.specs.Summaries.{kind_at, size_at, spot_at, kind_here, target_kind_at, target_place_at};
+ghost use Rattle.spu_asm.specs.Faults.{lesser, when_, number_of, is_code, is_zero, is_misplaced, is_in, clashes_at, clashes_by_at, is_here_at, is_against_rules_at, is_too_large_at, effect_fault_at, read_fault_at, fault_at};
+ghost use Rattle.spu_asm.specs.Cursors.{Fits, opened_headings, spot_of_code, begun, label_needs, with_labels, common_at, local_by, obeyed_in, obeyed, accepted_at, cursor_of, taken_at};
 
 use crate::faults::AsmKind;
 use crate::sections::{SectionDraft, gap, padding};

@@ -9,8 +9,8 @@ ghost use Rattle.spu_asm.specs.Parts.{lexemes};
 ghost use Rattle.spu_asm.specs.Values.{parted};
 ghost use Rattle.spu_asm.specs.StatementReading.{statement_of};
 ghost use Rattle.spu_asm.specs.Assembly.{Answers, Assembles, IsFaultOf, run_of, noted, statements_after, line_after};
-ghost use Rattle.spu_asm.specs.Progressing.{InRun, Finishes};
 ghost use Rattle.spu_asm.specs.Faults.{Fault, Run, after};
+ghost use Rattle.spu_asm.specs.Progressing.{InRun, Finishes};
 
 use crate::faults::{AsmFault, AsmKind};
 use crate::parts::first_part;

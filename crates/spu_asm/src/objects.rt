@@ -2,11 +2,9 @@
 
 ghost use Rattle.std.specs.Prelude.{◌≡◌, ◌<◌, ◌^◌, ◌++◌, ℕ, List, true, false, length, map, IfOk, OnOk, MatchOption};
 ghost use Rattle.std.specs.List.{list_all};
-ghost use Rattle.spu_asm.specs.Tables.{rows, index_in};
-ghost use Rattle.spu_asm.specs.Cursors.{relocation_of_pending, draft_of, drafts, sighting_of, sightings};
-ghost use Rattle.spu_asm.specs.Accepting.{ordered_at, section_at, symbol_at, place_at, reloc_at, relocs_at, is_global_at, object_at};
-ghost use Rattle.spu_asm.specs.Assemblers.{cursor_of, is_near, has_near, is_small, is_spellable, is_chosen, chosen, numbered, reloc_with, relocs_with};
-ghost use Rattle.spu_asm.specs.Standing.{Distinct};
+ghost use Rattle.spu_asm.specs.Tables.{rows, index_in, Distinct};
+ghost use Rattle.spu_asm.specs.Objects.{ordered_at, section_at, symbol_at, place_at, reloc_at, relocs_at, is_global_at, object_at};
+ghost use Rattle.spu_asm.specs.Cursors.{relocation_of_pending, draft_of, drafts, sighting_of, sightings, cursor_of, is_near, has_near, is_small, is_spellable, is_chosen, chosen, numbered};
 
 use crate::accumulating::Assembler;
 use crate::sections::{Pending, SectionDraft};
@@ -100,7 +98,7 @@ impl<'a> Table<'a, SectionDraft<'a>> {
 fn reloc(section: u32, order: &Table<()>, p: &Pending) -> Reloc
     requires near { is_near (relocation_of_pending p.now) ≡ true }
     requires few { length (rows order.now) < 2 ^ 32 }
-    ensures { result ≡ reloc_with (rows order.now) section (relocation_of_pending p.now) }
+    ensures { result ≡ reloc_at (rows order.now) section (relocation_of_pending p.now) }
 {
     Reloc {
         section,
@@ -120,7 +118,7 @@ fn push_relocs(
 ) -> Result<(), OutOfMemory>
     requires near { list_all is_near (map relocation_of_pending relocations.now) ≡ true }
     requires few { length (rows order.now) < 2 ^ 32 }
-    ensures { OnOk result (all.new ≡ all.old ++ map (reloc_with (rows order.now) section) (map relocation_of_pending relocations.now)) }
+    ensures { OnOk result (all.new ≡ all.old ++ map (reloc_at (rows order.now) section) (map relocation_of_pending relocations.now)) }
 {
     let mut rest = relocations;
     while let [p, more @ ..] = rest {
@@ -218,7 +216,7 @@ impl<'a> Assembler<'a> {
     fn relocs(&self, alloc: Global, order: &Table<()>) -> Result<Seq<Reloc>, OutOfMemory>
         requires spellable { is_spellable (cursor_of self.now) ≡ true }
         requires few { length (rows order.now) < 2 ^ 32 }
-        ensures { IfOk result (λ all. all ≡ relocs_with (rows order.now) 0 (cursor_of self.now).sections) }
+        ensures { IfOk result (λ all. all ≡ relocs_at (rows order.now) 0 (cursor_of self.now).sections) }
     {
         let mut all = Seq::new(alloc);
         let mut k = 0;

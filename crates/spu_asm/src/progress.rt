@@ -56,7 +56,7 @@ fn earlier(f: LineFault, other: Option<LineFault>) -> LineFault
 
 impl<'a> Progress<'a> {
     /// No statement yet.
-    #[tactic(auto, using(crate::proofs::Joins::begins))]
+    #[tactic(auto, using(crate::proofs::Joins::nothing_kept))]
     pub fn new(alloc: Global) -> Progress<'a>
         ensures { InRun nothing_yet result }
     {

@@ -3,12 +3,13 @@
 ghost use Rattle.std.specs.Prelude.{◌≡◌, ℕ, ◌+◌, ◌*◌, ◌/◌, ◌≤◌, ◌<◌, ◌^◌, [], ◌∷◌, ◌++◌, length, map, replicate, OnOk, IfOk, IfSome, option_map, Option, Some};
 ghost use Rattle.std.specs.List.{concat};
 ghost use Rattle.spu_word.specs.Bytes.{be_digits};
-ghost use Rattle.spu_asm.specs.Statements.{effect_of, instruction_of, content_of, relocations_by, address_relocation, listed, align};
+ghost use Rattle.spu_asm.specs.Statements.{effect_of, instruction_of, content_of, relocations_by, address_relocation, listed, align, moved};
+ghost use Rattle.spu_asm.specs.Histories.{gap, filling, added_bytes};
+ghost use Rattle.spu_asm.specs.Tables.{edited, opened, value_in};
+ghost use Rattle.spu_asm.specs.Summaries.{draft_kind, draft_size};
+ghost use Rattle.spu_asm.specs.Cursors.{relocation_of_pending, draft_of, drafts, blank, grown, referring, raised, grown_by, Fits};
 ghost use Rattle.spu_asm.specs.Operands.{target_in};
 ghost use Rattle.spu_reloc.specs.Fields.{number_of};
-ghost use Rattle.spu_asm.specs.Histories.{gap, filling, moved, added_bytes};
-ghost use Rattle.spu_asm.specs.Tables.{edited, opened, value_in};
-ghost use Rattle.spu_asm.specs.Cursors.{relocation_of_pending, draft_of, drafts, blank, grown, referring, raised, grown_by, Fits, draft_kind, draft_size};
 
 use crate::operands::Target;
 use crate::statements::{Action, AddressValue, Content, Instruction};

@@ -4,7 +4,8 @@ ghost use Rattle.std.specs.Prelude.{◌≡◌, ◌||◌, option_map, ◌-◌, �
 ghost use Rattle.spu_asm.specs.Statements.{effect_of, instruction_names, address_relocation};
 ghost use Rattle.spu_asm.specs.Histories.{reach, relocation_names};
 ghost use Rattle.spu_asm.specs.Tables.{put, opened, value_in};
-ghost use Rattle.spu_asm.specs.Cursors.{spot_of_code, sighting_of, sightings, unseen, state_at, spot_at, told, mentioned, labelled, placed, told_by};
+ghost use Rattle.spu_asm.specs.Summaries.{spot_at};
+ghost use Rattle.spu_asm.specs.Cursors.{spot_of_code, sighting_of, sightings, unseen, state_at, told, mentioned, labelled, placed, told_by};
 
 use crate::statements::{Action, AddressValue, Instruction};
 use crate::tables::Table;

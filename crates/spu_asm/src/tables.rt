@@ -2,8 +2,7 @@
 
 ghost use Rattle.std.specs.Prelude.{◌≡◌, true, Some, ◌+◌, ◌<◌, ◌≤◌, ◌^◌, [], ◌∷◌, length, map, drop, MatchOption, IfSome, OnOk};
 ghost use Rattle.std.specs.Option.{option_copied};
-ghost use Rattle.spu_asm.specs.Standing.{Distinct};
-ghost use Rattle.spu_asm.specs.Tables.{rows, value_in, index_in, opened, place_in, put};
+ghost use Rattle.spu_asm.specs.Tables.{Distinct, rows, value_in, index_in, opened, place_in, put};
 
 use indexmap::IndexMap;
 use spu_word::OutOfMemory;

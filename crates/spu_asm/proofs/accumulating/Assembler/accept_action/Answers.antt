@@ -3,9 +3,8 @@ use Rattle.std.specs.Prelude.{IfSome}
 use Rattle.spu_asm.specs.Statements.{effect_of}
 use Rattle.spu_asm.specs.Histories.{needs, target_of}
 use Rattle.spu_asm.specs.Tables.{value_in}
-use Rattle.spu_asm.specs.Cursors.{Fits, opened_headings}
-use Rattle.spu_asm.specs.Accepting.{Cursor}
-use Rattle.spu_asm.specs.Assemblers.{cursor_of}
+use Rattle.spu_asm.specs.Summaries.{Cursor}
+use Rattle.spu_asm.specs.Cursors.{Fits, opened_headings, cursor_of}
 use Rattle.spu_asm.proofs.FitLemmas.{room}
 use Rattle.spu_asm.proofs.accumulating.Assembler.accept_action.Goals as goal
 

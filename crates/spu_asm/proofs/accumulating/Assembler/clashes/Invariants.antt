@@ -1,6 +1,6 @@
 use Rattle.std.proofs.Common.{◌≡◌, List, ℕ, length, map, Bor}
-use Rattle.spu_asm.specs.Accepting.{clashes_at}
-use Rattle.spu_asm.specs.Assemblers.{cursor_of}
+use Rattle.spu_asm.specs.Faults.{clashes_at}
+use Rattle.spu_asm.specs.Cursors.{cursor_of}
 use Rattle.spu_asm.proofs.accumulating.Assembler.clashes.Given as goal
 
 abbrev pub invariant-loop-rest : goal.invariant-loop-rest

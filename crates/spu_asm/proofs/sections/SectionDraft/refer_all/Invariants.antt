@@ -1,6 +1,5 @@
 use Rattle.std.proofs.Common.{◌≡◌, map, take}
-use Rattle.spu_asm.specs.Statements.{address_relocation}
-use Rattle.spu_asm.specs.Histories.{moved}
+use Rattle.spu_asm.specs.Statements.{address_relocation, moved}
 use Rattle.spu_asm.specs.Cursors.{draft_of, referring}
 use Rattle.spu_asm.proofs.sections.SectionDraft.refer_all.Given as goal
 

@@ -1,7 +1,8 @@
 use Rattle.std.proofs.Common.{ap, sym, ◌∙◌}
 use Rattle.std.specs.Prelude.{option_map}
 use Rattle.spu_asm.specs.Tables.{rows}
-use Rattle.spu_asm.specs.Cursors.{draft_of, draft_size}
+use Rattle.spu_asm.specs.Summaries.{draft_size}
+use Rattle.spu_asm.specs.Cursors.{draft_of}
 use Rattle.spu_asm.proofs.TableLemmas.{value_with}
 use Rattle.spu_asm.proofs.sections.Table+SectionDraft.size.Goals as goal
 

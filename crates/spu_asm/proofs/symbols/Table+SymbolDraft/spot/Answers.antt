@@ -1,7 +1,8 @@
 use Rattle.std.proofs.Common.{ap, sym, ◌∙◌}
 use Rattle.std.specs.Prelude.{option_map}
 use Rattle.spu_asm.specs.Tables.{rows}
-use Rattle.spu_asm.specs.Cursors.{sighting_of, sighting_spot}
+use Rattle.spu_asm.specs.Summaries.{sighting_spot}
+use Rattle.spu_asm.specs.Cursors.{sighting_of}
 use Rattle.spu_asm.proofs.TableLemmas.{value_with}
 use Rattle.spu_asm.proofs.symbols.Table+SymbolDraft.spot.Goals as goal
 
