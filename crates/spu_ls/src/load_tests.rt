@@ -78,6 +78,13 @@ fn shows(
 
 const QUAD: [u8; 16] = [0; 16];
 
+/// So many zeros.
+fn zeros(alloc: Global, size: usize) -> Result<Seq<u8>, OutOfMemory> {
+    let mut bytes = Seq::new(alloc);
+    bytes.extend_zeros(size)?;
+    Ok(bytes)
+}
+
 #[test]
 fn quadwords_filled_in(rt: HostRuntime) -> Result<(), Fail> {
     let symbols = [
@@ -107,8 +114,7 @@ fn entries_in_order(rt: HostRuntime) -> Result<(), Fail> {
         (b"_EAR_".as_slice(), 160, SymKind::Object, true),
     ];
     let x = shows(rt.alloc(), &symbols, &[160])?;
-    let mut long = Seq::new(rt.alloc());
-    long.extend_zeros(65_536)?;
+    let long = zeros(rt.alloc(), 65_536)?;
     let areas: [(u64, &[u8]); 16] = [
         (4096, &QUAD),
         (4112, &QUAD),
@@ -169,15 +175,18 @@ fn index(answer: &Result<Machine, LoadFault>) -> Option<u32> {
 
 #[test]
 fn refused_areas(rt: HostRuntime) -> Result<(), Fail> {
-    let mut long = Seq::new(rt.alloc());
-    long.extend_zeros(65_537)?;
-    let long = long.as_slice();
+    let longest = zeros(rt.alloc(), 65_536)?;
+    let too_long = zeros(rt.alloc(), 65_537)?;
     let rows: [([(u64, &[u8]); 2], u32, &[u8]); 9] = [
         ([(4096, &QUAD), (4104, &QUAD)], 2, b"b"),
         ([(4096, &QUAD), (IMAGE + 16, &QUAD)], 2, b"b"),
         ([(4096, &QUAD), (4120, &QUAD)], 3, b"b"),
         ([(4096, &[]), (4112, &QUAD)], 3, b"a"),
-        ([(65_536, &long[..65_536]), (131_072, long)], 3, b"b"),
+        (
+            [(65_536, longest.as_slice()), (131_072, too_long.as_slice())],
+            3,
+            b"b",
+        ),
         ([(4096, &QUAD), (0xffff_ffff_ffff_fff0, &[0; 32])], 3, b"b"),
         ([(4112, &[]), (4096, &[0; 32])], 3, b"a"),
         ([(4096, &[0; 32]), (4112, &[])], 3, b"b"),
