@@ -1,5 +1,5 @@
 -- Areas whose names are one letter, each the next.
-use Rattle.std.proofs.Common.{◌≡◌, ℕ, zero, suc, ◌+◌, List, [], ◌∷◌, ◌++◌, length, Option, Some, None, sym, ap, ◌∙◌, subst, arith, length-append}
+use Rattle.std.proofs.Common.{◌≡◌, ℕ, zero, suc, ◌+◌, List, [], ◌∷◌, ◌++◌, length, Some, None, sym, ap, ◌∙◌, subst, arith, length-append}
 use Rattle.std.specs.Prelude.{slice_get}
 use Rattle.spu_word.specs.declared.load.Area.{Area}
 use Rattle.spu_ls.specs.Loading.{AreDistinct}
@@ -33,5 +33,5 @@ lettered_more n k areas more a h e is =
     let size = length-append areas (a ∷ []) in
     let count : length areas ≡ k = h.0 in
     let whole : (length (areas ++ a ∷ []) ≡ k + 1) × AreLettered n (areas ++ a ∷ []) =
-        (omega arith, one_more n areas a h.1 (e ∙ ap (λ j. (n + j) ∷ []) (sym count))) in
+    (omega arith, one_more n areas a h.1 (e ∙ ap (λ j. (n + j) ∷ []) (sym count))) in
     subst (λ xs. (length xs ≡ k + 1) × AreLettered n xs) (sym is) whole
