@@ -71,13 +71,6 @@ module _ (o : Object) (first : IsFirst o) (p : Prog) (stands : StandsFor o p) wh
     below = subst (λ (q : Plan). q.end ≤ 262112 - 16384) (sym e) (subst (λ p. (planned p).end ≤ 262112 - 16384) (sym stands.is) (let e = end_is in let most = form.most in omega arith));
   }
 
-  -- no symbol is filled in
-  no_entries : (l : Layout) → entries_of (symbols_of p l) ≡ map entry_of p.ears
-  no_entries l = subst (λ p. entries_of (symbols_of p l) ≡ map entry_of p.ears) (sym stands.is) refl
-
-  no_image : (l : Layout) → image_place (symbols_of p l) ≡ None
-  no_image l = subst (λ p. image_place (symbols_of p l) ≡ None) (sym stands.is) refl
-
   module _ (plan : Plan) (is_plan : plan ≡ flat_plan p.data_end (sizes_of p)) (x : Exec) (image : IsFlatExec p (layout_of p plan 16384) 16384 x) where
     image_q : IsFlatExec q (layout_of q (planned q) 16384) 16384 x
     image_q = subst (λ p. IsFlatExec p (layout_of p (planned p) 16384) 16384 x) stands.is (subst (λ plan. IsFlatExec p (layout_of p plan 16384) 16384 x) is_plan image)
@@ -108,8 +101,7 @@ module _ (o : Object) (first : IsFirst o) (p : Prog) (stands : StandsFor o p) wh
       image = image;
       valid = valid;
       file = is_file;
-      headline = flat_headline p no_frames 0 (first_judged o p first stands) plan 16384 (omega arith) (fits plan is_plan) x file image
-          (ap entries_of image.symbols ∙ no_entries (layout_of p plan 16384)) (ap image_place image.symbols ∙ no_image (layout_of p plan 16384));
+      headline = flat_headline p no_frames 0 (first_judged o p first stands) plan 16384 (omega arith) (fits plan is_plan) x file image;
     }
 
 -- ---- of what the code has

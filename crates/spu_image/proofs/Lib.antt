@@ -27,6 +27,7 @@ pub mod Laid
 pub mod Filled
 pub mod Made
 pub mod Roots
+pub mod GlobalSymbols
 pub mod FlatImages
 pub mod FirstJudged
 pub mod FirstFiles

@@ -1,20 +1,18 @@
 //! Laws of links and of the words that they make.
 
-ghost use Rattle.std.specs.Prelude.{◌≡◌, ◌<◌, ◌≤◌, ◌∷◌, [], ℕ, List, None, Some, map};
+ghost use Rattle.std.specs.Prelude.{◌≡◌, ◌<◌, ◌≤◌, ◌∷◌, [], ℕ, List, Some};
 ghost use Rattle.spu_word.specs.Bytes.{word_of};
 ghost use Rattle.spu_elf.specs.declared.objects.Object.{Object};
 ghost use Rattle.spu_elf.specs.declared.executables.Exec.{Exec};
 ghost use Rattle.spu_lift.specs.declared.program.Prog.{Prog};
 ghost use Rattle.spu_lift.specs.Places.{stack_pointer};
 ghost use Rattle.spu_plan.specs.declared.plan.Plan.{Plan};
-ghost use Rattle.spu_ls.specs.Entries.{entries_of, image_place};
 ghost use Rattle.spu_ls.specs.Hops.{hop};
 ghost use Rattle.spu_ls.specs.Machine.{State, step};
 ghost use Rattle.spu_ls.specs.Stores.{fetch};
 ghost use Rattle.spu_ls.specs.Sound.{IsOverBytes};
 ghost use Rattle.spu_ls.specs.Start.{start};
 ghost use Rattle.spu_ls.specs.declared.ending.RunEnd.TheVariants as ending;
-ghost use Rattle.spu_ideal.specs.Machine.{entry_of};
 ghost use Rattle.spu_ideal.specs.Samples.{nothing, sends_five};
 ghost use Rattle.spu_ideal.specs.States.{IsJudged};
 ghost use Rattle.spu_layout.specs.Layouts.{Layout, IsFlat, areas, is_between, span};
@@ -30,11 +28,10 @@ pub fn links_can_start()
     ensures { (objects : List Object) (limit : ℕ) (l : Linked) → IsLinked objects limit l → IsOverBytes l.exec l.file nothing → CanStart l.exec l.file nothing }
 {}
 
-/// An executable of a judged program by a flat plan keeps the promise of a link, where its symbols give the named areas
-/// of the program and no place of the image.
+/// An executable of a judged program by a flat plan keeps the promise of a link.
 pub fn flat_images_keep_the_promise()
     ensures { (p : Prog) (frames : ℕ → ℕ) (need : ℕ) → IsJudged p frames need → (plan : Plan) (limit : ℕ) → need ≤ limit → FitsFlat p plan limit → (x : Exec) (file : List ℕ)
-        → IsFlatExec p (layout_of p plan limit) limit x → entries_of x.symbols ≡ map entry_of p.ears → image_place x.symbols ≡ None → Headline p (layout_of p plan limit) frames limit need x file }
+        → IsFlatExec p (layout_of p plan limit) limit x → Headline p (layout_of p plan limit) frames limit need x file }
 {}
 
 /// In a flat layout each hop is one step.

@@ -1,5 +1,5 @@
 -- Programs of objects of the first form are well formed.
-use Rattle.std.proofs.Common.{◌≡◌, ℕ, zero, suc, ◌*◌, ◌^◌, ◌<◌, ◌≤◌, List, [], ◌∷◌, length, Some, codes, refl, sym, ap, subst, ◌∙◌, arith, lit≤, lit<, false}
+use Rattle.std.proofs.Common.{◌≡◌, ℕ, zero, suc, ◌*◌, ◌^◌, ◌<◌, ◌≤◌, List, [], ◌∷◌, length, Some, refl, sym, ap, subst, ◌∙◌, arith, lit≤, lit<, false}
 use Rattle.std.specs.Prelude.{slice_get, pos}
 use Rattle.std.specs.List.{Contains}
 use Rattle.std.proofs.lemmas.Int.{ints}
