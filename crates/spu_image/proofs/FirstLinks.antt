@@ -1,8 +1,7 @@
 -- What the parts of a link make of one object of the first form.
-use Rattle.std.proofs.Common.{◌≡◌, ℕ, ◌+◌, ◌-◌, ◌*◌, ◌/◌, ◌%◌, ◌^◌, ◌<◌, ◌≤◌, List, [], ◌∷◌, length, take, map, All, Option, Some, None, refl, sym, ap, ◌∙◌, subst, arith, codes}
-use Rattle.std.specs.Prelude.{slice_get, sum}
+use Rattle.std.proofs.Common.{◌≡◌, ℕ, ◌+◌, ◌-◌, ◌*◌, ◌^◌, ◌<◌, ◌≤◌, List, [], ◌∷◌, length, refl, sym, ap, ◌∙◌, subst, arith}
 use Rattle.std.proofs.lemmas.List.Sums.{sum_by-cons}
-use Rattle.spu_word.specs.declared.limits.TheConstants.{MAX_SECTION_SIZE, DATA_START}
+use Rattle.spu_word.specs.declared.limits.TheConstants.{DATA_START}
 use Rattle.spu_elf.specs.declared.objects.Section.{Section}
 use Rattle.spu_elf.specs.declared.objects.Object.{Object}
 use Rattle.spu_elf.specs.declared.objects.Symbol.{Symbol}
@@ -12,28 +11,22 @@ use Rattle.spu_elf.specs.Spelling.{spell_exec}
 use Rattle.spu_elf.specs.Validity.{IsValidExec}
 use Rattle.spu_lift.specs.FirstForm.{IsFirst, IsFirstSection}
 use Rattle.spu_lift.specs.declared.program.CodeSection.{CodeSection}
-use Rattle.spu_lift.specs.declared.program.SymInst.{SymInst}
 use Rattle.spu_lift.specs.declared.program.Prog.{Prog}
-use Rattle.spu_lift.specs.First.{StandsFor, IsCodeOf, first_program}
+use Rattle.spu_lift.specs.First.{StandsFor, first_program}
 use Rattle.spu_lift.specs.WellFormed.{IsWellFormed}
 use Rattle.spu_lift.proofs.FirstFormed.{first_formed, first_section}
 use Rattle.spu_plan.specs.declared.plan.Plan.{Plan}
 use Rattle.spu_plan.specs.Plans.{flat_end, flat_plan, rounded}
 use Rattle.spu_layout.specs.declared.layout.Layout as held
-use Rattle.spu_layout.specs.Layouts.{Layout}
 use Rattle.spu_layout.specs.Placing.{FitsFlat, layout_of, section_sizes, sizes_of, at}
 use Rattle.spu_layout.specs.Views.{function_count, layout_in}
 use Rattle.spu_layout.proofs.Flats.{planned}
-use Rattle.spu_ls.specs.Entries.{entries_of, image_place}
-use Rattle.spu_ideal.specs.Machine.{entry_of}
-use Rattle.spu_image.specs.declared.outcome.Linked.{Linked}
-use Rattle.spu_image.specs.Images.{IsFlatExec, symbols_of}
+use Rattle.spu_image.specs.Images.{IsFlatExec}
 use Rattle.spu_image.specs.Filling.{IsLaidOut}
-use Rattle.spu_image.specs.Headline.{Headline}
-use Rattle.spu_image.specs.Linking.{IsOneFirst, IsLinked, no_frames}
+use Rattle.spu_image.specs.Linking.{IsLinked, no_frames}
 use Rattle.spu_image.proofs.Roots.{segment_ends}
 use Rattle.spu_image.proofs.FlatImages.{flat_headline}
-use Rattle.spu_image.proofs.FirstJudged.{first_judged}
+use Rattle.spu_ideal.proofs.FirstJudged.{first_judged}
 use Rattle.spu_image.proofs.FirstFiles.{exec_of, exec_valid, main_symbol, one_segment}
 
 abbrev exec_by : ℕ → List Segment → List Symbol → Exec

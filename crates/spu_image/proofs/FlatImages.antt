@@ -2,12 +2,10 @@
 use Rattle.std.proofs.Common.{◌≡◌, ℕ, zero, suc, ◌+◌, ◌-◌, ◌<◌, ◌≤◌, List, [], ◌∷◌, length, map, get_or, Option, None, refl, sym, ap, ◌∙◌, subst, arith}
 use Rattle.std.specs.List.{AllByRecursion, Contains}
 use Rattle.spu_word.specs.declared.limits.TheConstants.{DATA_START, QUAD_SIZE, STACK_TOP}
-use Rattle.spu_word.specs.declared.load.Area.{Area}
 use Rattle.spu_word.specs.declared.load.Inputs.{Inputs}
 use Rattle.spu_elf.specs.declared.executables.Segment.{Segment}
 use Rattle.spu_elf.specs.declared.executables.Exec.{Exec}
 use Rattle.spu_exec.specs.Entries.{Entry}
-use Rattle.spu_exec.specs.Transfers.{Stretch}
 use Rattle.spu_lift.specs.declared.program.Part as section
 use Rattle.spu_lift.specs.declared.program.Ear.{Ear}
 use Rattle.spu_lift.specs.declared.program.Prog.{Prog}
@@ -23,12 +21,11 @@ use Rattle.spu_ls.proofs.Beginning.{start_sound}
 use Rattle.spu_ideal.specs.Machine.{entry_of, IsInside}
 use Rattle.spu_ideal.specs.States.{IsJudged}
 use Rattle.spu_layout.specs.Layouts.{Layout, IsLaid, IsFlat}
-use Rattle.spu_layout.specs.declared.layout.Span.{Span}
 use Rattle.spu_layout.specs.Placing.{FitsFlat, layout_of}
 use Rattle.spu_layout.proofs.Flats.{planned, ends_behind, flat_is_laid, flat_is_flat}
 use Rattle.spu_image.specs.Images.{IsFlatExec}
 use Rattle.spu_image.specs.Headline.{CanStart, Hop, Headline}
-use Rattle.spu_image.proofs.Promised.{IsLinkable, linkable_of}
+use Rattle.spu_image.proofs.Promised.{linkable_of}
 use Rattle.spu_image.proofs.Relations.{HasData, IsStored}
 use Rattle.spu_image.proofs.Promising.{promised}
 use Rattle.spu_image.proofs.Placing as placing

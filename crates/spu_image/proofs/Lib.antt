@@ -29,9 +29,9 @@ pub mod Made
 pub mod Roots
 pub mod GlobalSymbols
 pub mod FlatImages
-pub mod FirstJudged
 pub mod FirstFiles
 pub mod FirstLinks
 pub mod Samples
 pub mod FlatSteps
 pub mod SampleRuns
+pub mod TourRuns
