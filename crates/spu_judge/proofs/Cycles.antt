@@ -57,32 +57,38 @@ module _ (p : Prog) (formed : IsWellFormed p) where
   join_below : (f g : ℕ) → IsJoin (IsEdge p) f g → g < node
   join_below f g leads = let below = edge_below p formed leads.edge leads.is in let to = leads.to in omega (arith, below, to)
 
+  -- one more function or node of pointers, before the last function
+  one_more : (f g l : ℕ) → IsJoin (IsEdge p) f g ⊎ ((g ≡ node) × ((call : Bool) × IsPointing p f call)) → IsJoin (IsMade p) g l
+      → (g < node → IsChain (IsEdge p) (g ∷ l ∷ [])) → IsChain (IsEdge p) (f ∷ functions (g ∷ []) ++ l ∷ [])
+  one_more f g l (inl own) next rest =
+      let below = join_below f g own in
+      subst (λ gs. IsChain (IsEdge p) (f ∷ gs ++ l ∷ [])) (sym (kept g [] below)) (own, rest below)
+  one_more f g l (inr (at, pointing)) next rest =
+      let over = join_over f g l pointing at next in
+      subst (λ gs. IsChain (IsEdge p) (f ∷ gs ++ l ∷ [])) (sym (dropped g [] at)) (over.0, tt)
+
+  -- and before others
+  two_more : (f g h : ℕ) (hs : List ℕ) (l : ℕ) → IsJoin (IsEdge p) f g ⊎ ((g ≡ node) × ((call : Bool) × IsPointing p f call)) → IsJoin (IsMade p) g h
+      → (g < node → IsChain (IsEdge p) (g ∷ functions (h ∷ hs) ++ l ∷ [])) → (h < node → IsChain (IsEdge p) (h ∷ functions hs ++ l ∷ []))
+      → IsChain (IsEdge p) (f ∷ functions (g ∷ h ∷ hs) ++ l ∷ [])
+  two_more f g h hs l (inl own) next rest after =
+      let below = join_below f g own in
+      subst (λ gs. IsChain (IsEdge p) (f ∷ gs ++ l ∷ [])) (sym (kept g (h ∷ hs) below)) (own, rest below)
+  two_more f g h hs l (inr (at, pointing)) next rest after =
+      let over = join_over f g h pointing at next in
+      let same = dropped g (h ∷ hs) at ∙ kept h hs over.1 in
+      subst (λ gs. IsChain (IsEdge p) (f ∷ gs ++ l ∷ [])) (sym same) (over.0, after over.1)
+
+  last_join : (f l : ℕ) → l < node → IsJoin (IsEdge p) f l ⊎ ((l ≡ node) × ((call : Bool) × IsPointing p f call)) → IsChain (IsEdge p) (f ∷ l ∷ [])
+  last_join f l last (inl own) = (own, tt)
+  last_join f l last (inr (at, pointing)) = absurd (apart l last at)
+
   -- a chain from a function to a function, without the nodes of pointers between them
   chain_own : (f : ℕ) (xs : List ℕ) (l : ℕ) → f < node → l < node → IsChain (IsMade p) (f ∷ xs ++ l ∷ []) → IsChain (IsEdge p) (f ∷ functions xs ++ l ∷ [])
-  chain_own f [] l small last chain = by_join (join_own f l small chain.0)
-    where
-      by_join : IsJoin (IsEdge p) f l ⊎ ((l ≡ node) × ((call : Bool) × IsPointing p f call)) → IsChain (IsEdge p) (f ∷ l ∷ [])
-      by_join (inl own) = (own, tt)
-      by_join (inr (at, pointing)) = absurd (apart l last at)
-  chain_own f (g ∷ []) l small last chain = by_join (join_own f g small chain.0)
-    where
-      by_join : IsJoin (IsEdge p) f g ⊎ ((g ≡ node) × ((call : Bool) × IsPointing p f call)) → IsChain (IsEdge p) (f ∷ functions (g ∷ []) ++ l ∷ [])
-      by_join (inl own) =
-          let below = join_below f g own in
-          subst (λ gs. IsChain (IsEdge p) (f ∷ gs ++ l ∷ [])) (sym (kept g [] below)) (own, chain_own g [] l below last chain.1)
-      by_join (inr (at, pointing)) =
-          let over = join_over f g l pointing at chain.1.0 in
-          subst (λ gs. IsChain (IsEdge p) (f ∷ gs ++ l ∷ [])) (sym (dropped g [] at)) (over.0, tt)
-  chain_own f (g ∷ h ∷ hs) l small last chain = by_join (join_own f g small chain.0)
-    where
-      by_join : IsJoin (IsEdge p) f g ⊎ ((g ≡ node) × ((call : Bool) × IsPointing p f call)) → IsChain (IsEdge p) (f ∷ functions (g ∷ h ∷ hs) ++ l ∷ [])
-      by_join (inl own) =
-          let below = join_below f g own in
-          subst (λ gs. IsChain (IsEdge p) (f ∷ gs ++ l ∷ [])) (sym (kept g (h ∷ hs) below)) (own, chain_own g (h ∷ hs) l below last chain.1)
-      by_join (inr (at, pointing)) =
-          let over = join_over f g h pointing at chain.1.0 in
-          let same = dropped g (h ∷ hs) at ∙ kept h hs over.1 in
-          subst (λ gs. IsChain (IsEdge p) (f ∷ gs ++ l ∷ [])) (sym same) (over.0, chain_own h hs l over.1 last chain.1.1)
+  chain_own f [] l small last chain = last_join f l last (join_own f l small chain.0)
+  chain_own f (g ∷ []) l small last chain = one_more f g l (join_own f g small chain.0) chain.1.0 (λ below. chain_own g [] l below last chain.1)
+  chain_own f (g ∷ h ∷ hs) l small last chain =
+      two_more f g h hs l (join_own f g small chain.0) chain.1.0 (λ below. chain_own g (h ∷ hs) l below last chain.1) (λ below. chain_own h hs l below last chain.1.1)
 
   -- ---- cycles
 
@@ -105,9 +111,13 @@ module _ (p : Prog) (formed : IsWellFormed p) where
       let leads = cycle.0.0 in
       let into = made_in p formed leads.edge leads.is (leads.from ∙ is) in
       let below = (formed.taken g (subst (Contains p.taken) leads.to into.1)).1 in
-      let path = cycle.1 in
-      (below, (chain_more (IsMade p) (g ∷ gs) f g cycle.0.1 leads,
-          (leads.edge ∷ path.0, (leads.is, leads.to, subst (λ h. IsPath (IsMade p) e h path.0) (sym leads.from) path.1))))
+      let path = cycle.1 in (
+        below,
+        (
+          chain_more (IsMade p) (g ∷ gs) f g cycle.0.1 leads,
+          (leads.edge ∷ path.0, (leads.is, leads.to, subst (λ h. IsPath (IsMade p) e h path.0) (sym leads.from) path.1)),
+        ),
+      )
 
   without_last : (f : ℕ) (gs : List ℕ) → f ≡ node → functions (gs ++ f ∷ []) ≡ functions gs
   without_last f [] is = dropped f [] is

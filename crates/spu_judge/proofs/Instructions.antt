@@ -98,6 +98,9 @@ module _ (p : Prog) (formed : IsWellFormed p) (f i : ℕ) (x : SymInst) (here : 
   led (inr (jump, inr (k, other, none, taken))) =
       let none_here : taken_places p f ≡ [] = ap (taken_places p) (sym from) ∙ none in
       let register = register_other other in
-      inr (ap (λ k. edge_by k p f x) k ∙ ap (pointer_edge p f x.inst.ra) none_here
-          ∙ ap (λ (b : Bool). if b then None else Some (edge_between f (pointer_node p) false)) register
-          ∙ ap (λ b. Some (edge_between f (pointer_node p) b)) (sym jump), taken)
+      inr (
+        ap (λ k. edge_by k p f x) k ∙ ap (pointer_edge p f x.inst.ra) none_here
+            ∙ ap (λ (b : Bool). if b then None else Some (edge_between f (pointer_node p) false)) register
+            ∙ ap (λ b. Some (edge_between f (pointer_node p) b)) (sym jump),
+        taken,
+      )

@@ -3,5 +3,5 @@ pub mod Instructions
 pub mod Pointing
 pub mod Needs
 pub mod Cycles
-pub mod Judging
+pub mod Promised
 pub mod Samples

@@ -50,6 +50,7 @@ module _ (p : Prog) (formed : IsWellFormed p) (E : Edge → Type 0) (made : (x :
           let equal = weight_as m n same there.edges in
           let last = same g in
           omega (arith, most, total, equal, last)
+
       by_path : IsOwnOrNear p formed n f need.last (edges_weight n need.edges) → IsNeed (IsEdge p) n f v
       by_path (inl (other, own)) =
           let total = own.total in
@@ -69,6 +70,7 @@ module _ (p : Prog) (formed : IsWellFormed p) (E : Edge → Type 0) (made : (x :
   -- the needs of the functions alone
   pub own_needs : (m n : ℕ → ℕ) → ((f : ℕ) → m f ≡ n f) → n node ≡ 0 → (e : ℕ) → e < node → (all own : ℕ → Option ℕ)
       → ((f : ℕ) → own f ≡ (if nat_lt f node then all f else None)) → AreNeeds E m e all → AreNeeds (IsEdge p) n e own
+  unfolding IsPath
   own_needs m n same none e small all own kept needs =
       record {
         need = λ f v is. (let at = known f v (nat_lt f node) refl is in own_need m n same none f v (apart f at.0) (needs.need f v at.1));
@@ -81,14 +83,16 @@ module _ (p : Prog) (formed : IsWellFormed p) (E : Edge → Type 0) (made : (x :
     where
       apart : (f : ℕ) → f < node → f ≡ node → ⊥
       apart f lt is = omega (arith, lt, is)
+
       known : (f v : ℕ) (b : Bool) → nat_lt f node ≡ b → own f ≡ Some v → (f < node) × (all f ≡ Some v)
       known f v true t is = (ltb-true f node t, sym (cond-true _ _ _ t) ∙ sym (kept f) ∙ is)
       known f v false t is = absurd (let no : own f ≡ None = kept f ∙ ap (λ (b : Bool). if b then all f else None) t in cc)
+
       by_path : (f : ℕ) (other : f ≡ node → ⊥) (sum : ℕ) → IsOwnOrNear p formed n e f sum → (xs : List Edge) × IsPath (IsEdge p) e f xs
       by_path f other sum (inl (ne, own)) = (own.edges, own.path)
       by_path f other sum (inr (is, near)) = absurd (other is)
+
       path_below : (f : ℕ) (xs : List Edge) → IsPath (IsEdge p) e f xs → f < node
-      unfolding IsPath
       path_below f [] path = omega (arith, small, path)
       path_below f (x ∷ xs) path = let below = edge_below p formed x path.0 in let to = path.1 in omega (arith, below, to)
 

@@ -1,5 +1,5 @@
 -- Edges and paths of the graph that is made, against those of the program.
-use Rattle.std.proofs.Common.{◌≡◌, ℕ, ◌+◌, ◌<◌, ◌≤◌, ◌⊎◌, inl, inr, Bool, true, false, List, [], ◌∷◌, length, Some, refl, sym, ap, ◌∙◌, subst, arith, ℤ}
+use Rattle.std.proofs.Common.{◌≡◌, ℕ, ◌+◌, ◌<◌, ◌≤◌, ◌⊎◌, inl, inr, Bool, true, false, List, [], ◌∷◌, length, Option, Some, None, IfSome, refl, sym, ap, ◌∙◌, subst, arith, ℤ}
 use Rattle.std.specs.Prelude.{slice_get}
 use Rattle.std.specs.List.{Contains}
 use Rattle.spu_isa.specs.declared.operation.Kind.TheVariants as kind
@@ -13,7 +13,7 @@ use Rattle.spu_frame.specs.Walks.{Reaches}
 use Rattle.spu_graph.specs.declared.graph.Edge.{Edge}
 use Rattle.spu_graph.specs.Paths.{IsPath, weight_if, edges_weight}
 use Rattle.spu_judge.specs.Edges.{Leads, IsEdge}
-use Rattle.spu_judge.specs.Building.{pointer_node, edge_between, edge_of, IsOut, IsIn, IsMade}
+use Rattle.spu_judge.specs.Building.{pointer_node, edge_between, edge_of, IsOut, IsIn, IsMade, IsEdgeOf}
 use Rattle.spu_judge.proofs.Instructions.{function_within, Points, LeadsOut, leads_out, IsLed, led}
 
 -- a reached place of h leads by a pointer
@@ -34,7 +34,7 @@ module _ (p : Prog) (formed : IsWellFormed p) where
 
   -- ---- edges
 
-  pointing_edge : (h g : ℕ) (call : Bool) → IsPointing p h call → Contains p.taken g → IsEdge p (edge_between h g call)
+  pub pointing_edge : (h g : ℕ) (call : Bool) → IsPointing p h call → Contains p.taken g → IsEdge p (edge_between h g call)
   pointing_edge h g call q taken = record { at = q.at; depth = q.depth; reached = q.reached; x = q.x; here = q.here; leads = by_points q.points }
     where
       by_points : Points p h q.x call → Leads p q.x (edge_between h g call)
@@ -46,6 +46,7 @@ module _ (p : Prog) (formed : IsWellFormed p) where
     where
       stands : (o : Operand) → edge.x.operand ≡ o → IsOperand p e.from edge.x o
       stands o is = subst (λ (o : Operand). IsOperand p e.from edge.x o) is (formed.instructions e.from edge.at edge.x edge.here).stands
+
       by_leads : Leads p edge.x e → e.to < node
       by_leads (inl (c, inl (k, is))) = (let callee : IsOperand p e.from edge.x (operand.Call e.to) = stands (operand.Call e.to) is in callee.1.1)
       by_leads (inl (c, inr (k, taken))) = taken_below e.to taken
@@ -68,14 +69,35 @@ module _ (p : Prog) (formed : IsWellFormed p) where
             leads = leads;
           })
       by_leads (from, inr (to, points)) =
-          inr (to, record {
-            at = at;
-            depth = out.depth;
-            reached = subst (λ g. Reaches p g at out.depth) (sym from) out.reached;
-            x = out.x;
-            here = subst (λ g. instruction_at p g at ≡ Some out.x) (sym from) out.here;
-            points = subst (λ g. Points p g out.x e.call) (sym from) points;
-          })
+          inr (
+            to,
+            record {
+              at = at;
+              depth = out.depth;
+              reached = subst (λ g. Reaches p g at out.depth) (sym from) out.reached;
+              x = out.x;
+              here = subst (λ g. instruction_at p g at ≡ Some out.x) (sym from) out.here;
+              points = subst (λ g. Points p g out.x e.call) (sym from) points;
+            },
+          )
+
+  pub edge_small : (f i : ℕ) (o : Option Edge) → IsEdgeOf p f i o → IfSome o (λ e. e.to ≤ length p.functions)
+  edge_small f i None known = tt
+  edge_small f i (Some e) known = by_leads (leads_out p f known.0.x e known.0.leads)
+    where
+      by_leads : LeadsOut p f known.0.x e → e.to ≤ length p.functions
+      by_leads (from, inr (to, points)) = omega (arith, to)
+      by_leads (from, inl leads) =
+          let edge : IsEdge p e = record {
+            at = i;
+            depth = known.0.depth;
+            reached = subst (λ g. Reaches p g i known.0.depth) (sym from) known.0.reached;
+            x = known.0.x;
+            here = subst (λ g. instruction_at p g i ≡ Some known.0.x) (sym from) known.0.here;
+            leads = leads;
+          } in
+          let below = edge_below e edge in
+          omega (arith, below)
 
   -- from the node of pointers
   pub made_in : (e : Edge) → IsMade p e → e.from ≡ node → (e.call ≡ false) × Contains p.taken e.to
@@ -98,6 +120,7 @@ module _ (p : Prog) (formed : IsWellFormed p) where
     where
       out : (d : Edge) → edge_of p e.from edge.x ≡ Some d → IsMade p d
       out d is = inl (e.from, edge.at, record { depth = edge.depth; reached = edge.reached; x = edge.x; here = edge.here; leads = is })
+
       by_led : IsLed p e.from edge.x e → IsMade p e ⊎ (IsMade p (edge_between e.from node e.call) × IsMade p (edge_between node e.to false))
       by_led (inl is) = inl (out e is)
       by_led (inr (is, taken)) = inr (out (edge_between e.from node e.call) is, inr (refl, refl, taken))
@@ -143,11 +166,14 @@ module _ (p : Prog) (formed : IsWellFormed p) where
         let total = near.total in
         let light : weight_if x.call (frame x.from) ≡ 0 = ap (λ b. weight_if b (frame x.from)) into.0 in
         let edge = edge_between near.last x.to near.call in
-        inl (λ at. (let is : x.to ≡ node = to ∙ at in omega (arith, is, below)), record {
-          edges = edge ∷ near.edges;
-          path = (pointing_edge near.last x.to near.call near.pointing into.1, to, near.path);
-          total = omega (arith, total, light);
-        })
+        inl (
+          λ at. (let is : x.to ≡ node = to ∙ at in omega (arith, is, below)),
+          record {
+            edges = edge ∷ near.edges;
+            path = (pointing_edge near.last x.to near.call near.pointing into.1, to, near.path);
+            total = omega (arith, total, light);
+          },
+        )
 
     pub own_path : (ne : e ≡ node → ⊥) (g : ℕ) (xs : List Edge) → IsPath (IsMade p) e g xs → IsOwnOrNear frame e g (edges_weight frame xs)
     unfolding IsPath edges_weight

@@ -38,6 +38,15 @@ fn code_of(p: &Prog, f: u32) -> &[SymInst]
     p.functions.as_slice()[f as usize].code.as_slice()
 }
 
+/// The instruction at place i of a function.
+fn instruction(p: &Prog, f: u32, i: usize) -> &SymInst
+    requires f { f < length p.now.functions }
+    requires i { i < length (code_of p.now f) }
+    ensures { instruction_at p.now f i ≡ Some result.now }
+{
+    &code_of(p, f)[i]
+}
+
 /// The places of a function whose addresses are taken.
 fn taken_of(p: &Prog, f: u32) -> &[u32]
     requires { f < length p.now.functions }
@@ -139,7 +148,7 @@ fn edge_at(p: &Prog, depths: &Depths, f: u32, i: usize) -> Option<Edge>
     ensures to { IfSome result (λ e. e.to ≤ length p.now.functions) }
 {
     match depths.at(f, i as u32) {
-        Some(_) => edge_of(p, f, &code_of(p, f)[i]),
+        Some(_) => edge_of(p, f, instruction(p, f, i)),
         None => None,
     }
 }

@@ -5,9 +5,9 @@
 mod building;
 mod judging;
 mod outcome;
+mod telling;
 #[cfg(test)]
 mod tests;
-mod telling;
 
 pub use judging::judge_program;
 pub use outcome::{JudgeFault, Judged};

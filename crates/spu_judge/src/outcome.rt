@@ -30,7 +30,10 @@ pub enum JudgeFault {
     /// which calls and jumps lead from the entry.
     Recursion(Seq<Name>),
     /// L19: how many bytes of stack the entry needs, and how many there are.
-    StackLimit { need: u64, limit: u32 },
+    StackLimit {
+        need: u64,
+        limit: u32,
+    },
     /// Memory ran out.
     OutOfMemory,
 }

@@ -1,5 +1,5 @@
 -- What a judgement says of its program.
-use Rattle.std.proofs.Common.{◌≡◌, ℕ, ◌+◌, ◌*◌, ◌^◌, ◌<◌, ◌≤◌, ◌⊎◌, inl, inr, List, map, length, [], Option, Some, None, refl, sym, ap, ◌∙◌, subst, arith, ℤ}
+use Rattle.std.proofs.Common.{◌≡◌, ℕ, ◌+◌, ◌*◌, ◌^◌, ◌<◌, ◌≤◌, ◌⊎◌, inl, inr, List, map, length, [], Option, Some, None, Result, Err, IfErr, refl, sym, ap, ◌∙◌, subst, arith, ℤ}
 use Rattle.std.specs.Prelude.{slice_get, slice_index, nat_lt, if◌then◌else◌}
 use Rattle.std.specs.List.{Contains}
 use Rattle.spu_word.specs.declared.limits.TheConstants.{MAX_STACK_LIMIT, WORD_SIZE}
@@ -17,9 +17,11 @@ use Rattle.spu_graph.specs.declared.fault.GraphFault.TheVariants as graph_faults
 use Rattle.spu_graph.specs.Paths.{IsPath, IsNeed, IsRecursive}
 use Rattle.spu_graph.specs.Cycles.{IsRefused as IsGraphFault}
 use Rattle.spu_graph.specs.Known.{AreNeeds}
+use Rattle.spu_judge.specs.declared.outcome.Judged.{Judged}
+use Rattle.spu_judge.specs.declared.outcome.JudgeFault.{JudgeFault}
 use Rattle.spu_judge.specs.Edges.{IsEdge}
 use Rattle.spu_judge.specs.Judged.{IsJudged}
-use Rattle.spu_judge.specs.Answers.{name_of, IsFrameRefusal, IsRecursionRefusal, IsLimitRefusal}
+use Rattle.spu_judge.specs.Answers.{name_of, IsFrameRefusal, IsRecursionRefusal, IsLimitRefusal, IsRefused}
 use Rattle.spu_judge.specs.Building.{functions_among, IsMade, IsGraphRefused}
 use Rattle.spu_judge.proofs.Instructions.{function_within}
 use Rattle.spu_judge.proofs.Cycles.{cycle_refused}
@@ -80,3 +82,7 @@ over_limit p depth frames need_from need limit depths needs acyclic at over = re
   over = over;
   limit_told = refl;
 }
+
+-- what a `?` hands on
+pub handed_on : (p : Prog) (limit : ℕ) (r : Result Judged JudgeFault) (x y : JudgeFault) → r ≡ Err y → y ≡ x → IsRefused p limit x → IfErr r (IsRefused p limit)
+handed_on p limit r x y is same h = subst (λ (r : Result Judged JudgeFault). IfErr r (IsRefused p limit)) (sym is) (subst (IsRefused p limit) (sym same) h)
