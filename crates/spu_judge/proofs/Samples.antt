@@ -1,5 +1,5 @@
 -- Programs of one function, on which judgements are tried, are well formed.
-use Rattle.std.proofs.Common.{◌≡◌, ℕ, zero, suc, ◌+◌, ◌*◌, ◌<◌, ◌≤◌, ◌⊎◌, inl, inr, List, [], ◌∷◌, length, Some, refl, sym, ap, subst, arith, lit≤, lit<}
+use Rattle.std.proofs.Common.{◌≡◌, ℕ, zero, suc, ◌+◌, ◌*◌, ◌<◌, ◌≤◌, ◌⊎◌, inl, inr, List, [], ◌∷◌, ◌++◌, length, Some, refl, sym, ap, ◌∙◌, subst, arith, lit≤, lit<}
 use Rattle.std.specs.Prelude.{slice_get, pos}
 use Rattle.std.specs.List.{Contains}
 use Rattle.std.proofs.lemmas.Option.{slice_get_within}
@@ -9,6 +9,9 @@ use Rattle.spu_word.proofs.Places.{get_some}
 use Rattle.spu_isa.specs.declared.operation.Op.TheVariants as op
 use Rattle.spu_lift.specs.declared.program.CodeSection.{CodeSection}
 use Rattle.spu_lift.specs.declared.program.Function.{Function}
+use Rattle.spu_lift.specs.declared.program.Part.{Part}
+use Rattle.spu_lift.specs.declared.program.Ear.{Ear}
+use Rattle.spu_lift.specs.declared.program.Global_.{Global_}
 use Rattle.spu_lift.specs.declared.program.Operand.TheVariants as operand
 use Rattle.spu_lift.specs.declared.program.SymInst.{SymInst}
 use Rattle.spu_lift.specs.declared.program.Prog.{Prog}
@@ -104,3 +107,28 @@ module _ (name : List ℕ) (size : ℕ) (code : List SymInst) (taken : List ℕ)
       parts = λ part c. absurd (none_in part c);
       ears = λ ear c. absurd (none_in ear c);
     }
+
+-- one instruction more
+pub each_more : (P : SymInst → Type 0) (xs : List SymInst) (x : SymInst) → ((k : ℕ) (y : SymInst) → slice_get xs k ≡ Some y → P y) → P x
+    → (k : ℕ) (y : SymInst) → slice_get (xs ++ x ∷ []) k ≡ Some y → P y
+each_more P [] x each here zero y e = let is : x ≡ y = cc in subst P is here
+each_more P [] x each here (suc k) y e = absurd (cc)
+each_more P (z ∷ zs) x each here zero y e = each 0 y e
+each_more P (z ∷ zs) x each here (suc k) y e = each_more P zs x (λ j w f. each (suc j) w f) here k y e
+
+pub one_pushed : {X : Type 0} (new old : List X) (a : X) → new ≡ old ++ a ∷ [] → old ≡ [] → new ≡ a ∷ []
+one_pushed new old a e f = e ∙ ap (λ (xs : List _). xs ++ a ∷ []) f
+
+pub two_pushed : {X : Type 0} (new old older : List X) (a b : X) → new ≡ old ++ b ∷ [] → old ≡ older ++ a ∷ [] → older ≡ [] → new ≡ a ∷ b ∷ []
+two_pushed new old older a b e f g = e ∙ ap (λ (xs : List _). xs ++ b ∷ []) (one_pushed old older a f g)
+
+module _ (functions : List Function) (sections : List CodeSection) (parts : List Part) (taken : List ℕ) (ears : List Ear) (globals : List Global_) (end : ℕ)
+    (start main : Function) (section : CodeSection) (code : List SymInst) (count : ℕ) where
+  pub formed_as : functions ≡ start ∷ main ∷ [] → start ≡ start_code 128 1 → main ≡ main_function code → sections ≡ section ∷ [] → section.size ≡ 4 * count → parts ≡ [] → ears ≡ [] → globals ≡ [] → end ≡ 128
+      → ((i : ℕ) (x : SymInst) → slice_get code i ≡ Some x → (q : Prog) → length q.functions ≡ 2 → ((j : ℕ) → j < count → IsPlace q 1 j) → IsInstruction q 1 x)
+      → length code ≡ count → 1 ≤ count → count ≤ 16 → (taken ≡ []) ⊎ (taken ≡ 1 ∷ [])
+      → IsWellFormed (record { functions = functions; code = sections; parts = parts; taken = taken; entry = 1; ears = ears; globals = globals; data_end = end })
+  formed_as fs st mn cs size ps es gs at each long some few is_taken =
+      let is : sample section.name section.size code taken ≡ record { functions = functions; code = sections; parts = parts; taken = taken; entry = 1; ears = ears; globals = globals; data_end = end } = cc in
+      subst IsWellFormed is (formed section.name section.size code taken
+      (λ i x here q two places. each i x here q two (λ j lt. places j (omega (arith, lt, long)))) (omega (arith, some, long)) (omega (arith, few, long)) (omega (arith, size, long)) is_taken)

@@ -1,6 +1,7 @@
 //! Tests of judgements, on programs of one function.
 
-ghost use Rattle.std.specs.Prelude.{◌≡◌, ◌<◌, ◌⊎◌, ℕ, [], ◌∷◌, length, true, Some, slice_get, IfOk, IfSome};
+ghost use Rattle.std.specs.Prelude.{◌≡◌, ◌<◌, ◌⊎◌, ℕ, [], ◌∷◌, length, true, Some, slice_get, pos, IfOk, IfSome};
+ghost use Rattle.spu_lift.specs.declared.program.Operand.TheVariants as operand;
 ghost use Rattle.spu_lift.specs.declared.program.Prog.{Prog};
 ghost use Rattle.spu_lift.specs.declared.program.SymInst.{SymInst};
 ghost use Rattle.spu_lift.specs.First.{main_function};
@@ -14,7 +15,7 @@ use spu_elf::is_same;
 use spu_frame::{FrameKind, frames};
 use spu_isa::{Inst, Kind, Op, info};
 use spu_lift::{CodeSection, Function, Operand, Prog, SymInst};
-use spu_word::limits::{DATA_START, WORD_SIZE};
+use spu_word::limits::{DATA_START, MAX_STACK_LIMIT, WORD_SIZE};
 use spu_word::{OutOfMemory, Seq};
 use std::alloc::Global;
 use std::test::Fail;
@@ -43,7 +44,9 @@ enum Step {
 }
 
 /// An instruction of two registers and an immediate field.
-fn of_registers(op: Op, rt: u8, ra: u8, rb: u8, imm: i32) -> Inst {
+fn of_registers(op: Op, rt: u8, ra: u8, rb: u8, imm: i32) -> Inst
+    ensures { result ≡ record { op = op; rt = rt; ra = ra; rb = rb; rc = 0; imm = imm } }
+{
     Inst {
         op,
         rt,
@@ -122,11 +125,18 @@ fn links(x: &SymInst) -> bool
     }
 }
 
+/// Whether an instruction's field is empty, or nothing else stands for it.
+fn is_alone(x: &SymInst) -> bool
+    ensures { result ≡ true → (x.now.operand ≡ operand.Plain → ⊥) → x.now.inst.imm ≡ pos 0 }
+{
+    x.operand == Operand::Plain || x.inst.imm == 0
+}
+
 /// Whether an instruction may stand in `main`, which has so many words.
 fn is_fine(x: &SymInst, count: usize) -> bool
     ensures { result ≡ true → (p : Prog) → length p.functions ≡ 2 → ((i : ℕ) → i < count → IsPlace p 1 i) → IsInstruction p 1 x.now }
 {
-    x.inst.in_range() && x.inst.imm == 0 | x.operand == Operand::Plain && may_stand(x, count) && links(x)
+    x.inst.in_range() && is_alone(x) && may_stand(x, count) && links(x)
 }
 
 /// The instructions of steps, None where one may not stand.
@@ -138,10 +148,11 @@ fn code_of(alloc: Global, steps: &[Step]) -> Result<Option<Seq<SymInst>>, OutOfM
     let mut code = Seq::new(alloc);
     for step in steps {
         let x = instruction(*step);
-        if !is_fine(&x, steps.len()) {
+        if is_fine(&x, steps.len()) {
+            code.push(x)?;
+        } else {
             return Ok(None);
         }
-        code.push(x)?;
     }
     Ok(Some(code))
 }
@@ -230,7 +241,7 @@ fn program(alloc: Global, steps: &[Step], is_taken: bool) -> Result<Option<Prog>
 
 /// What is told of a program.
 #[derive(Clone, Copy, PartialEq, Eq, Debug)]
-enum Told {
+enum Verdict {
     Need(u64),
     Frame(FrameKind, u32),
     Recursion(usize),
@@ -238,27 +249,27 @@ enum Told {
     Nothing,
 }
 
-fn told(answer: Result<Judged, JudgeFault>) -> Told {
+fn verdict_on(answer: Result<Judged, JudgeFault>) -> Verdict {
     match answer {
         Ok(judged) => match judged.needs.need(1) {
-            Some(need) => Told::Need(need),
-            None => Told::Nothing,
+            Some(need) => Verdict::Need(need),
+            None => Verdict::Nothing,
         },
         Err(JudgeFault::Frame { kind, name, offset }) => {
             if is_same(name.as_slice(), b"main") {
-                Told::Frame(kind, offset)
+                Verdict::Frame(kind, offset)
             } else {
-                Told::Nothing
+                Verdict::Nothing
             }
         }
-        Err(JudgeFault::Recursion(names)) => Told::Recursion(names.len()),
-        Err(JudgeFault::StackLimit { need, limit }) => Told::StackLimit(need, limit),
-        Err(JudgeFault::OutOfMemory) => Told::Nothing,
+        Err(JudgeFault::Recursion(names)) => Verdict::Recursion(names.len()),
+        Err(JudgeFault::StackLimit { need, limit }) => Verdict::StackLimit(need, limit),
+        Err(JudgeFault::OutOfMemory) => Verdict::Nothing,
     }
 }
 
 /// A function, whether its address is taken, the stack that there is, and what is told of it.
-type Row = (&'static [Step], bool, u32, Told);
+type Row = (&'static [Step], bool, u32, Verdict);
 
 const ROWS: [Row; 14] = [
     // a frame that is loaded, with an instruction between
@@ -273,7 +284,7 @@ const ROWS: [Row; 14] = [
         ],
         false,
         16384,
-        Told::Need(1024),
+        Verdict::Need(1024),
     ),
     // the loaded number is changed between
     (
@@ -287,7 +298,7 @@ const ROWS: [Row; 14] = [
         ],
         false,
         16384,
-        Told::Frame(FrameKind::StackWrite, 8),
+        Verdict::Frame(FrameKind::StackWrite, 8),
     ),
     // the loaded number may come from elsewhere
     (
@@ -300,7 +311,7 @@ const ROWS: [Row; 14] = [
         ],
         false,
         16384,
-        Told::Frame(FrameKind::StackWrite, 8),
+        Verdict::Frame(FrameKind::StackWrite, 8),
     ),
     // the greatest depth, not the first one
     (
@@ -312,7 +323,7 @@ const ROWS: [Row; 14] = [
         ],
         false,
         96,
-        Told::Need(96),
+        Verdict::Need(96),
     ),
     // as much, with less stack
     (
@@ -324,7 +335,7 @@ const ROWS: [Row; 14] = [
         ],
         false,
         80,
-        Told::StackLimit(96, 80),
+        Verdict::StackLimit(96, 80),
     ),
     // two branches come with different depths
     (
@@ -338,7 +349,7 @@ const ROWS: [Row; 14] = [
         ],
         false,
         16384,
-        Told::Frame(FrameKind::DepthDisagrees, 20),
+        Verdict::Frame(FrameKind::DepthDisagrees, 20),
     ),
     // the first place with two depths is one that a later branch leads back to
     (
@@ -355,55 +366,60 @@ const ROWS: [Row; 14] = [
         ],
         false,
         16384,
-        Told::Frame(FrameKind::DepthDisagrees, 8),
+        Verdict::Frame(FrameKind::DepthDisagrees, 8),
     ),
     // a return within a frame
     (
         &[Step::Nothing, Step::Add(1, -16), Step::Return],
         false,
         16384,
-        Told::Frame(FrameKind::DepthAtExit, 8),
+        Verdict::Frame(FrameKind::DepthAtExit, 8),
     ),
     // a branch by a pointer leaves the function
     (
         &[Step::Add(1, -16), Step::JumpPointer],
         false,
         16384,
-        Told::Frame(FrameKind::DepthAtExit, 4),
+        Verdict::Frame(FrameKind::DepthAtExit, 4),
     ),
     // a depth below 0 behind the place
     (
-        &[Step::Nothing, Step::Add(1, 16), Step::Add(1, -16), Step::Return],
+        &[
+            Step::Nothing,
+            Step::Add(1, 16),
+            Step::Add(1, -16),
+            Step::Return,
+        ],
         false,
         16384,
-        Told::Frame(FrameKind::DepthRange, 4),
+        Verdict::Frame(FrameKind::DepthRange, 4),
     ),
     // what no walk reaches isn't judged
     (
         &[Step::Return, Step::Add(1, 16), Step::Return],
         false,
         16384,
-        Told::Need(0),
+        Verdict::Need(0),
     ),
     // it calls itself
     (
         &[Step::Nothing, Step::CallItself, Step::Return],
         false,
         16384,
-        Told::Recursion(1),
+        Verdict::Recursion(1),
     ),
     // it calls by a pointer, and its address is taken, or isn't
     (
         &[Step::CallPointer, Step::Return],
         true,
         16384,
-        Told::Recursion(1),
+        Verdict::Recursion(1),
     ),
     (
         &[Step::CallPointer, Step::Return],
         false,
         16384,
-        Told::Need(0),
+        Verdict::Need(0),
     ),
 ];
 
@@ -411,7 +427,8 @@ const ROWS: [Row; 14] = [
 fn programs_are_told(rt: HostRuntime) -> Result<(), Fail> {
     for (steps, is_taken, limit, wanted) in ROWS {
         let prog = program(rt.alloc(), steps, is_taken)?.ok_or("not well formed")?;
-        assert_eq!(rt; told(judge_program(rt.alloc(), prog, limit)), wanted);
+        assert!(rt; limit <= MAX_STACK_LIMIT);
+        assert_eq!(rt; verdict_on(judge_program(rt.alloc(), prog, limit)), wanted);
     }
     Ok(())
 }
@@ -421,14 +438,23 @@ fn depths_are_told(rt: HostRuntime) -> Result<(), Fail> {
     let steps = [
         Step::Load(-1024),
         Step::AddLoaded,
-        Step::Add(1, 1024),
+        Step::Load(1024),
+        Step::AddLoaded,
         Step::Return,
         Step::Nothing,
     ];
     let prog = program(rt.alloc(), &steps, false)?.ok_or("not well formed")?;
     match frames(rt.alloc(), &prog) {
         Ok(depths) => {
-            let wanted = [Some(0), Some(0), Some(1024), Some(0), None, None];
+            let wanted = [
+                Some(0),
+                Some(0),
+                Some(1024),
+                Some(1024),
+                Some(0),
+                None,
+                None,
+            ];
             for (i, depth) in wanted.iter().enumerate() {
                 assert_eq!(rt; depths.at(1, i as u32), *depth);
             }
