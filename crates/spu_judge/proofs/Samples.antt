@@ -105,7 +105,10 @@ module _ (name : List ℕ) (size : ℕ) (code : List SymInst) (taken : List ℕ)
       data_end = lit≤ tt;
       ordered = lit≤ tt;
       parts = λ part c. absurd (none_in part c);
+      globals = λ g c. absurd (none_in g c);
+      distinct = λ i j g h eg eh same. (let far = slice_get_within [] i g eg in absurd (omega (arith, far)));
       ears = λ ear c. absurd (none_in ear c);
+      ears_are_global = tt;
     }
 
 -- one instruction more
