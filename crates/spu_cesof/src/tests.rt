@@ -201,11 +201,22 @@ fn names_the_first_fault(rt: HostRuntime) -> Result<(), Fail> {
     check_rows(&rt, alloc, object.as_slice())
         .ok()
         .ok_or("memory")?;
-    for len in [0, 51, 52, 1107, 1467] {
-        let cut = &object.as_slice()[..len.min(object.len())];
-        assert_eq!(rt; faulted(alloc, cut), [1, len as u64]);
-    }
     assert_eq!(rt; CesofFault::BadToe(7).number(), 3);
     assert_eq!(rt; CesofFault::BadToe(7).name(), "BadToe");
+    Ok(())
+}
+
+#[test]
+fn answers_each_cut_and_each_byte(rt: HostRuntime) -> Result<(), Fail> {
+    let alloc = rt.alloc();
+    let object = bytes_of(alloc, EMBEDDED).ok().ok_or("memory")?;
+    let whole = object.as_slice();
+    for at in 0..whole.len() {
+        assert_eq!(rt; faulted(alloc, &whole[..at]), [1, at as u64]);
+        let other = changed(alloc, whole, at as u64, 255).ok().ok_or("memory")?;
+        let [number, place] = faulted(alloc, other.as_slice());
+        assert!(rt; number != 0, "memory at {at}");
+        assert!(rt; place <= whole.len() as u64, "{place} at {at}");
+    }
     Ok(())
 }

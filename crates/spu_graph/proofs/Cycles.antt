@@ -72,7 +72,7 @@ length_from : (xs : List Edge) → length (map (λ x. x.from) xs) ≡ length xs
 length_from [] = refl
 length_from (x ∷ xs) = ap suc (length_from xs)
 
-round_recursive : (E : Edge → Type 0) (e f k : ℕ) (xs : List Edge) → IsPath E e f xs → Joined E f f (suc k) → IsRecursive E e
+pub round_recursive : (E : Edge → Type 0) (e f k : ℕ) (xs : List Edge) → IsPath E e f xs → Joined E f f (suc k) → IsRecursive E e
 round_recursive E e f k xs first round =
     let long = length-append round.edges xs in
     let count = length_from (round.edges ++ xs) in

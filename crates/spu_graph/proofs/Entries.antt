@@ -1,6 +1,6 @@
 -- Where the entry is done, all that its paths reach is.
 use Rattle.std.proofs.Common.{◌≡◌, ℕ, zero, suc, ◌<◌, ◌≤◌, arith, Bool, true, false, List, [], ◌∷◌, length, Option, Some, None, refl, sym, ap, ◌∙◌}
-use Rattle.std.specs.Prelude.{slice_get, if◌then◌else◌, ◌==◌}
+use Rattle.std.specs.Prelude.{slice_get, slice_index, if◌then◌else◌, ◌==◌}
 use Rattle.std.specs.List.{Contains}
 use Rattle.std.proofs.lemmas.Bool.{eqb-true, eq-eqb, cond-true}
 use Rattle.spu_graph.proofs.Ranks.{never_recursive}
@@ -35,7 +35,7 @@ module _ (frames : List ℕ) (edges : List Edge) (entry : ℕ) (known : List (Op
     both (Some false) o v e = absurd (cc)
     both None o v e = absurd (cc)
 
-    pub are_needs : AreNeeds frames edges entry (needed known marks)
+    pub are_needs : AreNeeds (Contains edges) (slice_index frames) entry (needed known marks)
     are_needs = record {
       need = λ f v e. p.done f v (both (slice_get marks f) (slice_get known f) v e).1;
       some = λ f v e. r.some f (both (slice_get marks f) (slice_get known f) v e).0;

@@ -8,3 +8,4 @@ pub mod Reached
 pub mod Entries
 pub mod Cycles
 pub mod Traces
+pub mod Rounds

@@ -1,6 +1,5 @@
 -- The needs that are handed back.
-use Rattle.std.specs.Prelude.{◌≡◌, ℕ, Bool, true, List, Option, Some, None, slice_get, slice_index}
-use Rattle.std.specs.List.{Contains}
+use Rattle.std.specs.Prelude.{◌≡◌, ℕ, Bool, true, List, Option, Some, None, slice_get}
 use Rattle.spu_graph.specs.declared.graph.Edge.{Edge}
 use Rattle.spu_graph.specs.declared.needed.Needs.{Needs}
 use Rattle.spu_graph.specs.Paths.{IsPath, IsNeed}
@@ -17,9 +16,9 @@ needed known marks f = needed_by (slice_get marks f) (slice_get known f)
 abbrev pub need_of : Needs → ℕ → Option ℕ
 need_of n = needed n.known.items n.marks.items
 
--- the need of each function: None exactly where no path from the entry reaches it, else the greatest
+-- the need of each function, over these edges: None exactly where no path from the entry reaches it, else the greatest
 -- weight of a path that begins at it
-pub record AreNeeds (frames : List ℕ) (edges : List Edge) (entry : ℕ) (need_from : ℕ → Option ℕ) : Type 0 where
-  pub need : (f v : ℕ) → need_from f ≡ Some v → IsNeed (Contains edges) (slice_index frames) f v
-  pub some : (f v : ℕ) → need_from f ≡ Some v → (xs : List Edge) × IsPath (Contains edges) entry f xs
-  pub none : (f : ℕ) (xs : List Edge) → need_from f ≡ None → IsPath (Contains edges) entry f xs → ⊥
+pub record AreNeeds (E : Edge → Type 0) (frame : ℕ → ℕ) (entry : ℕ) (need_from : ℕ → Option ℕ) : Type 0 where
+  pub need : (f v : ℕ) → need_from f ≡ Some v → IsNeed E frame f v
+  pub some : (f v : ℕ) → need_from f ≡ Some v → (xs : List Edge) × IsPath E entry f xs
+  pub none : (f : ℕ) (xs : List Edge) → need_from f ≡ None → IsPath E entry f xs → ⊥

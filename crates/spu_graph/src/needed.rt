@@ -1,6 +1,6 @@
 //! The stack that functions need.
 
-ghost use Rattle.std.specs.Prelude.{◌≡◌};
+ghost use Rattle.std.specs.Prelude.{◌≡◌, ℕ, None, nat_lt, if◌then◌else◌};
 
 /// The stack that each function needs which paths from an entry reach.
 #[derive(Drop)]
@@ -25,5 +25,13 @@ impl Needs {
             Some(false) => None,
             None => None,
         }
+    }
+
+    /// Forgets the needs of all functions but the first so many.
+    pub fn keep_first(&mut self, count: u32)
+        ensures { (f : ℕ) → need_of self.new f ≡ (if nat_lt f count then need_of self.old f else None) }
+    {
+        self.marks.truncate(count as usize);
+        self.known.truncate(count as usize);
     }
 }

@@ -1,6 +1,6 @@
 //! The needs of a graph, or the cycle for which it has none.
 
-ghost use Rattle.std.specs.Prelude.{◌≡◌, ◌<◌, length, IfOk, IfErr};
+ghost use Rattle.std.specs.Prelude.{◌≡◌, ◌<◌, length, IfOk, IfErr, slice_index};
 ghost use Rattle.std.specs.List.{Contains};
 ghost use Rattle.spu_graph.specs.Graphs.{frames_of, edges_of};
 ghost use Rattle.spu_graph.specs.Paths.{IsRecursive};
@@ -20,7 +20,7 @@ impl Graph {
     /// the entry comes to a function twice, a cycle. Time and memory are linear in functions and edges.
     pub fn needs(&self, alloc: Global, entry: u32) -> Result<Needs, GraphFault>
         requires { entry < length (frames_of self.now) }
-        ensures needs { IfOk result (λ n. AreNeeds (frames_of self.now) (edges_of self.now) entry (need_of n)) }
+        ensures needs { IfOk result (λ n. AreNeeds (Contains (edges_of self.now)) (slice_index (frames_of self.now)) entry (need_of n)) }
         ensures acyclic { IfOk result (λ n. IsRecursive (Contains (edges_of self.now)) entry → ⊥) }
         ensures refused { IfErr result (IsRefused (Contains (edges_of self.now)) entry) }
     {

@@ -6,15 +6,15 @@ use spu_word::{OutOfMemory, Seq};
 use std::alloc::Global;
 use std::test::Fail;
 
-/// The graph of four functions with the frames 16, 32, 48 and 64, and no edge.
+/// The graph of four functions with the frames 32, 48, 16 and 16, and no edge.
 fn four(alloc: Global) -> Result<Graph, OutOfMemory>
     ensures { IfOk result (λ g. length (frames_of g) ≡ 4) }
 {
     let mut frames = Seq::new(alloc);
-    frames.push(16)?;
     frames.push(32)?;
     frames.push(48)?;
-    frames.push(64)?;
+    frames.push(16)?;
+    frames.push(16)?;
     Graph::new(alloc, &frames)
 }
 
@@ -22,29 +22,46 @@ fn four(alloc: Global) -> Result<Graph, OutOfMemory>
 fn the_greatest_path_counts(rt: HostRuntime) -> Result<(), Fail> {
     let mut graph = four(rt.alloc()).ok().ok_or("memory")?;
     assert_eq!(rt; graph.add_edge(0, 1, true), Ok(()));
-    assert_eq!(rt; graph.add_edge(0, 2, false), Ok(()));
+    assert_eq!(rt; graph.add_edge(0, 2, true), Ok(()));
     assert_eq!(rt; graph.add_edge(1, 2, true), Ok(()));
+    assert_eq!(rt; graph.add_edge(0, 3, true), Ok(()));
     let needs = graph.needs(rt.alloc(), 0).ok().ok_or("no needs")?;
     assert_eq!(rt; needs.need(0), Some(96));
-    assert_eq!(rt; needs.need(1), Some(80));
-    assert_eq!(rt; needs.need(2), Some(48));
+    assert_eq!(rt; needs.need(1), Some(64));
+    assert_eq!(rt; needs.need(2), Some(16));
+    Ok(())
+}
+
+#[test]
+fn jumps_keep_no_frame(rt: HostRuntime) -> Result<(), Fail> {
+    let mut graph = four(rt.alloc()).ok().ok_or("memory")?;
+    assert_eq!(rt; graph.add_edge(0, 1, false), Ok(()));
+    assert_eq!(rt; graph.add_edge(1, 2, true), Ok(()));
+    let mut needs = graph.needs(rt.alloc(), 0).ok().ok_or("no needs")?;
+    assert_eq!(rt; needs.need(0), Some(64));
+    assert_eq!(rt; needs.need(2), Some(16));
     assert_eq!(rt; needs.need(3), None);
+    needs.keep_first(2);
+    assert_eq!(rt; needs.need(1), Some(64));
+    assert_eq!(rt; needs.need(2), None);
     Ok(())
 }
 
 #[test]
 fn a_cycle_is_told(rt: HostRuntime) -> Result<(), Fail> {
     let mut graph = four(rt.alloc()).ok().ok_or("memory")?;
+    assert_eq!(rt; graph.add_edge(3, 0, true), Ok(()));
     assert_eq!(rt; graph.add_edge(0, 1, true), Ok(()));
-    assert_eq!(rt; graph.add_edge(1, 3, true), Ok(()));
-    assert_eq!(rt; graph.add_edge(1, 2, false), Ok(()));
-    assert_eq!(rt; graph.add_edge(2, 1, true), Ok(()));
-    match graph.needs(rt.alloc(), 0) {
-        Err(GraphFault::Recursion(cycle)) => assert_eq!(rt; cycle.as_slice(), [1u32, 2].as_slice()),
+    assert_eq!(rt; graph.add_edge(0, 2, true), Ok(()));
+    assert_eq!(rt; graph.add_edge(1, 2, true), Ok(()));
+    assert_eq!(rt; graph.add_edge(2, 0, true), Ok(()));
+    match graph.needs(rt.alloc(), 3) {
+        Err(GraphFault::Recursion(cycle)) => assert_eq!(rt;
+            cycle.as_slice(),
+            [0u32, 1, 2].as_slice()
+        ),
         Err(GraphFault::OutOfMemory) => return Err("memory".into()),
         Ok(_) => return Err("needs".into()),
     }
-    let needs = graph.needs(rt.alloc(), 3).ok().ok_or("no needs")?;
-    assert_eq!(rt; needs.need(3), Some(64));
     Ok(())
 }

@@ -1,5 +1,5 @@
 -- More sample programs run.
-use Rattle.std.proofs.Common.{◌≡◌, ℕ, List, [], ◌∷◌, map, Some, refl}
+use Rattle.std.proofs.Common.{◌≡◌, [], ◌∷◌, map, Some, refl}
 use Rattle.spu_word.specs.declared.load.Area.{Area}
 use Rattle.spu_exec.specs.Tags.{status}
 use Rattle.spu_ideal.specs.declared.ending.IdealEnd.TheVariants as ending

@@ -46,7 +46,7 @@ number_in Unknown = None
 -- word k of a quad, where its four bytes are numbers
 abbrev pub known_word : List SymByte → ℕ → Option ℕ
 known_word quad k =
-    word_number (number_in (sym_at quad (4 * k))) (number_in (sym_at quad (4 * k + 1))) (number_in (sym_at quad (4 * k + 2))) (number_in (sym_at quad (4 * k + 3)))
+    word_number (number_in (sym_at quad (WORD_SIZE * k))) (number_in (sym_at quad (WORD_SIZE * k + 1))) (number_in (sym_at quad (WORD_SIZE * k + 2))) (number_in (sym_at quad (WORD_SIZE * k + 3)))
 
 -- how many bytes a label has
 abbrev pub size_of : Label → ℕ

@@ -17,7 +17,7 @@ use Rattle.spu_lift.specs.declared.program.Part as section
 use Rattle.spu_lift.specs.declared.program.Ear.{Ear}
 use Rattle.spu_exec.specs.Entries.{Entry, quad_for}
 use Rattle.spu_lift.specs.declared.program.Prog.{Prog}
-use Rattle.spu_lift.specs.Places.{instruction_at, taken_places, kind_of}
+use Rattle.spu_lift.specs.Places.{instruction_at, taken_places, kind_of, link_register, stack_pointer}
 use Rattle.spu_reloc.specs.Fields.{kind_on, relocated}
 use Rattle.spu_ideal.specs.declared.ending.IdealEnd.{IdealEnd}
 use Rattle.spu_ideal.specs.declared.ending.IdealEnd.TheVariants as ending
@@ -51,7 +51,7 @@ computes p x s = sets p x.inst.rt (leaves x.operand x.inst (s.regs x.inst.ra) (s
 
 -- a call leaves the link of the next place in register 0
 abbrev pub opens : Sym → Sym
-opens s = record s { regs = put 0 (link_of s.f (s.i + 1)) s.regs; calls = record { f = s.f; i = s.i + 1; pointer = known_word (s.regs 1) 0 } ∷ s.calls }
+opens s = record s { regs = put link_register (link_of s.f (s.i + 1)) s.regs; calls = record { f = s.f; i = s.i + 1; pointer = known_word (s.regs stack_pointer) 0 } ∷ s.calls }
 
 abbrev pub calls : Prog → ℕ → Sym → Sym
 calls p g s = goes p g 0 s (forgets (opens s))
@@ -60,12 +60,12 @@ calls p g s = goes p g 0 s (forgets (opens s))
 abbrev pub returns : Prog → List OpenCall → Sym → Sym
 returns p [] s = outside reason.Target s
 returns p (c ∷ cs) s =
-    if is_link c.f c.i (s.regs 0) then goes p c.f c.i s (forgets (record s { calls = cs })) else outside reason.Target s
+    if is_link c.f c.i (s.regs link_register) then goes p c.f c.i s (forgets (record s { calls = cs })) else outside reason.Target s
 
 -- a jump to another function needs the innermost open call's link in register 0
 abbrev pub jumps : Prog → ℕ → List OpenCall → Sym → Sym
 jumps p g [] s = outside reason.Target s
-jumps p g (c ∷ cs) s = if is_link c.f c.i (s.regs 0) then goes p g 0 s (forgets s) else outside reason.Target s
+jumps p g (c ∷ cs) s = if is_link c.f c.i (s.regs link_register) then goes p g 0 s (forgets s) else outside reason.Target s
 
 abbrev pub calls_direct : Operand → Prog → Sym → Sym
 calls_direct (operand.Call g) p s = calls p g s
@@ -163,7 +163,7 @@ unfoldable pub start : Prog → ℕ → Inputs → Sym
 start p limit inputs = record {
   f = 0;
   i = 1;
-  regs = λ r. if r == 1 then numbers (quad_of STACK_TOP limit 0 0) else sixteen (λ k. Num 0);
+  regs = λ r. if r == stack_pointer then numbers (quad_of STACK_TOP limit 0 0) else sixteen (λ k. Num 0);
   store = with_entries (map entry_of p.ears) inputs.areas (data_byte p.parts);
   calls = [];
   channels = λ n. Some 0;

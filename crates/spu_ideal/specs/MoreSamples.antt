@@ -1,6 +1,6 @@
 -- More programs on which the symbolic machine is tried: one that stays inside with a put, a branch that is taken, a jump by an address and
 -- a conditional return, and small ones that leave.
-use Rattle.std.specs.Prelude.{ℕ, ◌*◌, ◌+◌, false, List, [], ◌∷◌, length, codes, pos}
+use Rattle.std.specs.Prelude.{ℕ, ◌*◌, ◌+◌, false, List, [], ◌∷◌, length, codes, pos, negsuc}
 use Rattle.spu_isa.specs.declared.operation.Op.TheVariants as op
 use Rattle.spu_lift.specs.declared.program.Label.TheVariants.{Fun}
 use Rattle.spu_lift.specs.declared.program.Operand.TheVariants as operand
@@ -34,6 +34,23 @@ with_helper code = record {
 -- rdch $13,12; rchcnt $14,29; brnz $9,.L; stop 1; .L: $5, $11, $12, $13 and $14 to the outbound mailbox; ila $15,helper; bi $15
 abbrev pub visits : Prog
 visits = with_helper (load_immediate 4 (pos 7) ∷ with_operand op.Stqa 4 (operand.Number 128) ∷ with_operand op.Lqr 5 (operand.Number 128) ∷ load_immediate 3 (pos 128) ∷ load_immediate 6 (pos 4096) ∷ load_immediate 7 (pos 16) ∷ load_immediate 8 (pos 32) ∷ load_immediate 9 (pos 2) ∷ load_immediate 16 (pos 1) ∷ write_channel 16 3 ∷ write_channel 17 10 ∷ write_channel 18 6 ∷ write_channel 19 7 ∷ write_channel 20 16 ∷ write_channel 21 8 ∷ write_channel 22 9 ∷ write_channel 23 16 ∷ with_fields op.Rchcnt 11 24 0 (pos 0) ∷ read_channel 12 24 ∷ read_channel 13 12 ∷ with_fields op.Rchcnt 14 29 0 (pos 0) ∷ with_operand op.Brnz 9 (operand.Branch 23) ∷ with_fields op.Stop 0 0 0 (pos 1) ∷ write_channel 28 5 ∷ write_channel 28 11 ∷ write_channel 28 12 ∷ write_channel 28 13 ∷ write_channel 28 14 ∷ with_operand op.Ila 15 (operand.Address (Fun 2)) ∷ with_fields op.Bi 0 15 0 (pos 0) ∷ [])
+
+-- its frame of 32 bytes lies below the entry pointer: ai $1,$1,-32; il $3,7; stqd $3,0($1); lqd $4,0($1); wrch 28,$4; ai $1,$1,32; bi $0
+abbrev pub keeps_frame : Prog
+keeps_frame = of_main (with_fields op.Ai 1 1 0 (negsuc 31) ∷ load_immediate 3 (pos 7) ∷ with_fields op.Stqd 3 1 0 (pos 0) ∷ with_fields op.Lqd 4 1 0 (pos 0) ∷ write_channel 28 4 ∷ with_fields op.Ai 1 1 0 (pos 32) ∷ go_back ∷ [])
+
+-- the quadword of a named area: lqa $3,128; rotqbyi $4,$3,4; rotqbyi $5,$3,8; $3, $4 and $5 to the outbound mailbox
+abbrev pub finds_area : Prog
+finds_area = record (of_main (with_operand op.Lqa 3 (operand.Number 128) ∷ with_fields op.Rotqbyi 4 3 0 (pos 4) ∷ with_fields op.Rotqbyi 5 3 0 (pos 8) ∷ write_channel 28 3 ∷ write_channel 28 4 ∷ write_channel 28 5 ∷ go_back ∷ [])) {
+  parts = record { address = 128; size = 16; bytes = []; labels = [] } ∷ [];
+  ears = record { name = codes "a"; address = 128 } ∷ [];
+  globals = record { name = codes "_EAR_a"; address = 128; size = 16 } ∷ [];
+  data_end = 144;
+}
+
+-- a get with tag 0; wrch 22,3; wrch 23,0: nothing lands, and tag 1 alone is idle
+abbrev pub asks_now : Prog
+asks_now = with_helper (load_immediate 3 (pos 128) ∷ load_immediate 6 (pos 4096) ∷ load_immediate 7 (pos 16) ∷ load_immediate 8 (pos 64) ∷ load_immediate 9 (pos 3) ∷ write_channel 16 3 ∷ write_channel 17 10 ∷ write_channel 18 6 ∷ write_channel 19 7 ∷ write_channel 20 10 ∷ write_channel 21 8 ∷ write_channel 22 9 ∷ write_channel 23 10 ∷ read_channel 11 24 ∷ with_fields op.Rchcnt 12 21 0 (pos 0) ∷ with_operand op.Lqa 13 (operand.Number 128) ∷ write_channel 28 11 ∷ write_channel 28 12 ∷ write_channel 28 13 ∷ go_back ∷ [])
 
 -- ---- outside
 
@@ -85,7 +102,35 @@ puts_link = with_helper (with_operand op.Stqa 0 (operand.Number 128) ∷ load_im
 abbrev pub jumps_without_link : Prog
 jumps_without_link = with_helper (load_immediate 0 (pos 1) ∷ with_operand op.Br 0 (operand.Jump 2) ∷ [])
 
--- ---- an end against the rules of channels
+-- a get with the loader's tag
+abbrev pub takes_tag : Prog
+takes_tag = with_helper (load_immediate 3 (pos 128) ∷ load_immediate 6 (pos 4096) ∷ load_immediate 7 (pos 16) ∷ load_immediate 8 (pos 64) ∷ load_immediate 9 (pos 31) ∷ write_channel 16 3 ∷ write_channel 17 10 ∷ write_channel 18 6 ∷ write_channel 19 7 ∷ write_channel 20 9 ∷ write_channel 21 8 ∷ go_back ∷ [])
+
+-- stqd $3,0($0)
+abbrev pub stores_by_link : Prog
+stores_by_link = of_main (with_fields op.Stqd 3 0 0 (pos 0) ∷ go_back ∷ [])
+
+-- behind the data: lqa $3,128
+abbrev pub loads_behind : Prog
+loads_behind = of_main (with_operand op.Lqa 3 (operand.Number 128) ∷ go_back ∷ [])
+
+-- no function is at the address: bi $3
+abbrev pub jumps_by_number : Prog
+jumps_by_number = of_main (with_fields op.Bi 0 3 0 (pos 0) ∷ [])
+
+-- the last place, where a count of the status would be: rchcnt $3,24
+abbrev pub counts_last : Prog
+counts_last = of_main (with_fields op.Rchcnt 3 24 0 (pos 0) ∷ [])
+
+-- ---- ends against the rules of channels
+
+-- an update is answered once: il $8,2; wrch 23,$8; rdch $11,24; rdch $11,24
+abbrev pub asks_twice : Prog
+asks_twice = of_main (load_immediate 8 (pos 2) ∷ write_channel 23 8 ∷ read_channel 11 24 ∷ read_channel 11 24 ∷ go_back ∷ [])
+
+-- rchcnt $3,1
+abbrev pub counts_wrongly : Prog
+counts_wrongly = of_main (with_fields op.Rchcnt 3 1 0 (pos 0) ∷ go_back ∷ [])
 
 -- no update is 3: il $3,3; wrch 23,$3
 abbrev pub updates_wrongly : Prog

@@ -3,7 +3,7 @@
 -- at its call; and the stack pointer is the innermost entry pointer less the depth of the place.
 use Rattle.std.specs.Prelude.{◌≡◌, ◌≢◌, ℕ, ◌+◌, ◌<◌, ◌≤◌, List, [], ◌∷◌, length, Some, ℤ, pos, ◌-ℤ◌}
 use Rattle.std.specs.List.{Contains}
-use Rattle.spu_word.specs.declared.limits.TheConstants.{MAX_STACK_LIMIT, QUAD_SIZE, STACK_TOP}
+use Rattle.spu_word.specs.declared.limits.TheConstants.{QUAD_SIZE, STACK_TOP}
 use Rattle.spu_exec.specs.Lanes.{immediate}
 use Rattle.spu_lift.specs.declared.program.SymInst.{SymInst}
 use Rattle.spu_lift.specs.declared.program.Prog.{Prog}
@@ -13,11 +13,10 @@ use Rattle.spu_lift.specs.declared.symbolic.SymByte.{SymByte}
 use Rattle.spu_lift.specs.declared.symbolic.SymByte.TheVariants.{Num, Part, Unknown}
 use Rattle.spu_ideal.specs.Bytes.{sym_at, known_word, size_of}
 use Rattle.spu_lift.specs.Places.{instruction_at, taken_places, stack_pointer}
-use Rattle.spu_lift.specs.WellFormed.{IsWellFormed}
 use Rattle.spu_frame.specs.Walks.{Holds, Reaches}
-use Rattle.spu_frame.specs.Frames.{AreGood, IsFrame}
 use Rattle.spu_graph.specs.declared.graph.Edge.{Edge}
-use Rattle.spu_graph.specs.Paths.{IsPath, IsNeed, IsRecursive}
+use Rattle.spu_graph.specs.Paths.{IsPath}
+pub use Rattle.spu_judge.specs.Judged.{IsJudged}
 use Rattle.spu_ideal.specs.Edges.{Calls, IsEdge, IsJumpEdge}
 use Rattle.spu_ideal.specs.declared.state.OpenCall.{OpenCall}
 use Rattle.spu_ideal.specs.State.{Sym}
@@ -92,13 +91,3 @@ pub record IsOf (p : Prog) (s : Sym) : Type 0 where
   pub falls : pos word ≡ pos entry -ℤ depth
   -- what an `il` has left for a write of the stack pointer
   pub held : (h r j : ℕ) (k : ℤ) → Holds p s.f h r k j → h < s.i → s.i ≤ j → known_word (s.regs r) 0 ≡ Some (immediate 4 k)
-
--- What is known of a program that was linked or is checked: it is well formed, its frames are good and these, and the need of its entry
--- is this, which a stack can have.
-pub record IsJudged (p : Prog) (frames : ℕ → ℕ) (need : ℕ) : Type 0 where
-  pub formed : IsWellFormed p
-  pub good : AreGood p
-  pub greatest : (f : ℕ) → f < length p.functions → IsFrame p f (frames f)
-  pub heaviest : IsNeed (IsEdge p) frames p.entry need
-  pub acyclic : IsRecursive (IsEdge p) p.entry → ⊥
-  pub limit : need ≤ MAX_STACK_LIMIT

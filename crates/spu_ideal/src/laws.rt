@@ -14,7 +14,9 @@ ghost use Rattle.spu_ideal.specs.Bytes.{known_word, link_of};
 ghost use Rattle.spu_ideal.specs.State.{Sym};
 ghost use Rattle.spu_ideal.specs.Machine.{calls, run, start, step};
 ghost use Rattle.spu_ideal.specs.States.{IsOf, IsJudged};
-ghost use Rattle.spu_ideal.specs.Promises.{IsHigh};
+ghost use Rattle.spu_ideal.specs.Accesses.{is_allowed};
+ghost use Rattle.spu_ideal.specs.Promises.{AreWaiting, IsHigh, IsReached};
+ghost use Rattle.spu_ideal.specs.Samples.{tours, tour_frames};
 
 /// A call leaves the link of the next place in the link register.
 #[tactic(auto, using(crate::proofs::Calls::link_left))]
@@ -63,4 +65,15 @@ pub fn run_is_high()
 /// A program of an object of the first form is judged, with frames of no bytes and no need.
 pub fn first_programs_are_judged()
     ensures { (o : Object) (p : Prog) → IsFirst o → StandsFor o p → IsJudged p (λ f. 0) 0 }
+{}
+
+/// A program with an instruction of each kind is judged: one that has a frame, a call, a pointer call, and data with a label.
+pub fn tours_is_judged()
+    ensures { IsJudged tours tour_frames 32 }
+{}
+
+/// Each step keeps the rules of the queue, where what may be loaded and stored lies in the data and in the stack area.
+pub fn step_keeps_waiting()
+    ensures { (p : Prog) (frames : ℕ → ℕ) (limit : ℕ) (s : Sym) → ((a size : ℕ) → is_allowed p frames s a size ≡ true → IsReached p limit a size)
+        → AreWaiting p limit s.areas s.queue → AreWaiting p limit (step p frames s).areas (step p frames s).queue }
 {}

@@ -18,6 +18,16 @@ ghost use Rattle.spu_ideal.specs.MoreSamples.{
   puts_link,
   jumps_without_link,
   updates_wrongly,
+  asks_now,
+  asks_twice,
+  counts_last,
+  counts_wrongly,
+  finds_area,
+  jumps_by_number,
+  keeps_frame,
+  loads_behind,
+  stores_by_link,
+  takes_tag,
 };
 ghost use Rattle.spu_ideal.specs.Samples.{
   nothing,
@@ -99,4 +109,31 @@ pub fn programs_leave()
     ensures puts_link_ends { (run puts_link (λ f. 0) 16384 one_area 17).ended ≡ Some (ending.Outside reason.NotNumber 1 15) }
     ensures jumps_without_link_ends { (run jumps_without_link (λ f. 0) 16384 nothing 3).ended ≡ Some (ending.Outside reason.Target 1 1) }
     ensures updates_wrongly_ends { (run updates_wrongly (λ f. 0) 16384 nothing 3).ended ≡ Some (ending.BadChannel 23) }
+{}
+
+/// Programs that stay inside: one whose frame lies below its entry pointer, one that reads the quadword of a named area, and
+/// one that asks for the status of tags while a transfer waits.
+#[tactic(auto, using(crate::proofs::LastSamples::keeps_frame_stops, crate::proofs::LastSamples::keeps_frame_sends, crate::proofs::LastSamples::finds_area_stops, crate::proofs::LastSamples::finds_area_sends, crate::proofs::LastSamples::asks_now_stops, crate::proofs::LastSamples::asks_now_sends))]
+pub fn frames_and_areas_are_reached()
+    ensures keeps_frame_is { (run keeps_frame tour_frames 16384 nothing 9).ended ≡ Some (ending.Stop 8192) }
+    ensures keeps_frame_output_is { (run keeps_frame tour_frames 16384 nothing 9).output ≡ 7 ∷ [] }
+    ensures finds_area_is { (run finds_area (λ f. 0) 16384 one_area 9).ended ≡ Some (ending.Stop 8192) }
+    ensures finds_area_output_is { (run finds_area (λ f. 0) 16384 one_area 9).output ≡ 0 ∷ 4096 ∷ 16 ∷ [] }
+    ensures asks_now_is { (run asks_now (λ f. 0) 16384 one_area 22).ended ≡ Some (ending.Stop 8192) }
+    ensures asks_now_output_is { (run asks_now (λ f. 0) 16384 one_area 22).output ≡ 2 ∷ 15 ∷ 0 ∷ [] }
+{}
+
+/// Programs that leave by what no other sample has: the first of those above where its frame is not known, the loader's tag, an address
+/// of a store that is no number, a load behind the data, a jump to no function, the end of the code before an update; and ends of
+/// channels.
+#[tactic(auto, using(crate::proofs::LastSamples::keeps_frame_leaves, crate::proofs::LastSamples::takes_tag_leaves, crate::proofs::LastSamples::stores_by_link_leaves, crate::proofs::LastSamples::loads_behind_leaves, crate::proofs::LastSamples::jumps_by_number_leaves, crate::proofs::LastSamples::counts_last_leaves, crate::proofs::LastSamples::asks_twice_leaves, crate::proofs::LastSamples::counts_wrongly_leaves))]
+pub fn programs_leave_otherwise()
+    ensures keeps_frame_ends { (run keeps_frame (λ f. 0) 16384 nothing 4).ended ≡ Some (ending.Outside reason.Store 1 2) }
+    ensures takes_tag_ends { (run takes_tag (λ f. 0) 16384 one_area 12).ended ≡ Some (ending.Outside reason.Transfer 1 10) }
+    ensures stores_by_link_ends { (run stores_by_link (λ f. 0) 16384 nothing 2).ended ≡ Some (ending.Outside reason.NotNumber 1 0) }
+    ensures loads_behind_ends { (run loads_behind (λ f. 0) 16384 nothing 2).ended ≡ Some (ending.Outside reason.Store 1 0) }
+    ensures jumps_by_number_ends { (run jumps_by_number (λ f. 0) 16384 nothing 2).ended ≡ Some (ending.Outside reason.Target 1 0) }
+    ensures counts_last_ends { (run counts_last (λ f. 0) 16384 nothing 2).ended ≡ Some (ending.Outside reason.EndOfCode 1 0) }
+    ensures asks_twice_ends { (run asks_twice (λ f. 0) 16384 nothing 5).ended ≡ Some (ending.BadChannel 24) }
+    ensures counts_wrongly_ends { (run counts_wrongly (λ f. 0) 16384 nothing 2).ended ≡ Some (ending.BadChannel 1) }
 {}

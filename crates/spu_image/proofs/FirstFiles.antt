@@ -1,5 +1,5 @@
 -- The executable of a program of the first form has a file.
-use Rattle.std.proofs.Common.{◌≡◌, ℕ, ◌+◌, ◌^◌, ◌%◌, ◌≤◌, ◌<◌, true, false, List, [], ◌∷◌, ◌++◌, length, codes, refl, sym, ap, subst, ◌∙◌, arith, lit≤, lit<}
+use Rattle.std.proofs.Common.{◌≡◌, ℕ, ◌+◌, ◌^◌, ◌%◌, ◌≤◌, ◌<◌, true, false, List, [], ◌∷◌, ◌++◌, length, codes, refl, ◌∙◌, arith, lit≤, lit<}
 use Rattle.std.proofs.lemmas.List.{length-append}
 use Rattle.std.proofs.lemmas.List.Elements.{All-nil, All-cons}
 use Rattle.spu_elf.specs.declared.executables.Segment.{Segment}
@@ -8,7 +8,7 @@ use Rattle.spu_elf.specs.declared.objects.SymKind.TheVariants as names
 use Rattle.spu_elf.specs.declared.objects.SymPlace.TheVariants as places
 use Rattle.spu_elf.specs.declared.executables.Exec.{Exec}
 use Rattle.spu_elf.specs.Spelling.{Part, Draft, added, blank, closed, symbol_part, symbol_table, string_table, file_of, with_symbol, segment_part, segment_parts, program_headers, image_front, spell_exec}
-use Rattle.spu_elf.specs.Rows.{aligned, padding, ended}
+use Rattle.spu_elf.specs.Rows.{aligned, ended}
 use Rattle.spu_elf.specs.Validity.{IsValidExec, IsValidSegment, IsExecSymbol}
 use Rattle.spu_elf.proofs.DraftLemmas.{length_aligned, length_file_of, length_step, length_added, length_heads, length_blank, length_blank_heads, no_padding_1, no_padding_4}
 use Rattle.spu_lift.proofs.FirstValid.{main_is_name}

@@ -1,8 +1,7 @@
 -- What the parts of a link make of one object of the first form.
-use Rattle.std.proofs.Common.{◌≡◌, ℕ, ◌+◌, ◌-◌, ◌*◌, ◌/◌, ◌%◌, ◌^◌, ◌<◌, ◌≤◌, List, [], ◌∷◌, length, take, map, All, Option, Some, None, refl, sym, ap, ◌∙◌, subst, arith, codes}
-use Rattle.std.specs.Prelude.{slice_get, sum}
+use Rattle.std.proofs.Common.{◌≡◌, ℕ, ◌+◌, ◌-◌, ◌*◌, ◌^◌, ◌<◌, ◌≤◌, List, [], ◌∷◌, length, refl, sym, ap, ◌∙◌, subst, arith}
 use Rattle.std.proofs.lemmas.List.Sums.{sum_by-cons}
-use Rattle.spu_word.specs.declared.limits.TheConstants.{MAX_SECTION_SIZE, DATA_START}
+use Rattle.spu_word.specs.declared.limits.TheConstants.{DATA_START}
 use Rattle.spu_elf.specs.declared.objects.Section.{Section}
 use Rattle.spu_elf.specs.declared.objects.Object.{Object}
 use Rattle.spu_elf.specs.declared.objects.Symbol.{Symbol}
@@ -12,28 +11,22 @@ use Rattle.spu_elf.specs.Spelling.{spell_exec}
 use Rattle.spu_elf.specs.Validity.{IsValidExec}
 use Rattle.spu_lift.specs.FirstForm.{IsFirst, IsFirstSection}
 use Rattle.spu_lift.specs.declared.program.CodeSection.{CodeSection}
-use Rattle.spu_lift.specs.declared.program.SymInst.{SymInst}
 use Rattle.spu_lift.specs.declared.program.Prog.{Prog}
-use Rattle.spu_lift.specs.First.{StandsFor, IsCodeOf, first_program}
+use Rattle.spu_lift.specs.First.{StandsFor, first_program}
 use Rattle.spu_lift.specs.WellFormed.{IsWellFormed}
 use Rattle.spu_lift.proofs.FirstFormed.{first_formed, first_section}
 use Rattle.spu_plan.specs.declared.plan.Plan.{Plan}
 use Rattle.spu_plan.specs.Plans.{flat_end, flat_plan, rounded}
 use Rattle.spu_layout.specs.declared.layout.Layout as held
-use Rattle.spu_layout.specs.Layouts.{Layout}
 use Rattle.spu_layout.specs.Placing.{FitsFlat, layout_of, section_sizes, sizes_of, at}
 use Rattle.spu_layout.specs.Views.{function_count, layout_in}
 use Rattle.spu_layout.proofs.Flats.{planned}
-use Rattle.spu_ls.specs.Entries.{entries_of, image_place}
-use Rattle.spu_ideal.specs.Machine.{entry_of}
-use Rattle.spu_image.specs.declared.outcome.Linked.{Linked}
-use Rattle.spu_image.specs.Images.{IsFlatExec, symbols_of}
+use Rattle.spu_image.specs.Images.{IsFlatExec}
 use Rattle.spu_image.specs.Filling.{IsLaidOut}
-use Rattle.spu_image.specs.Headline.{Headline}
-use Rattle.spu_image.specs.Linking.{IsOneFirst, IsLinked, no_frames}
+use Rattle.spu_image.specs.Linking.{IsLinked, no_frames}
 use Rattle.spu_image.proofs.Roots.{segment_ends}
 use Rattle.spu_image.proofs.FlatImages.{flat_headline}
-use Rattle.spu_image.proofs.FirstJudged.{first_judged}
+use Rattle.spu_ideal.proofs.FirstJudged.{first_judged}
 use Rattle.spu_image.proofs.FirstFiles.{exec_of, exec_valid, main_symbol, one_segment}
 
 abbrev exec_by : ℕ → List Segment → List Symbol → Exec
@@ -71,13 +64,6 @@ module _ (o : Object) (first : IsFirst o) (p : Prog) (stands : StandsFor o p) wh
     below = subst (λ (q : Plan). q.end ≤ 262112 - 16384) (sym e) (subst (λ p. (planned p).end ≤ 262112 - 16384) (sym stands.is) (let e = end_is in let most = form.most in omega arith));
   }
 
-  -- no symbol is filled in
-  no_entries : (l : Layout) → entries_of (symbols_of p l) ≡ map entry_of p.ears
-  no_entries l = subst (λ p. entries_of (symbols_of p l) ≡ map entry_of p.ears) (sym stands.is) refl
-
-  no_image : (l : Layout) → image_place (symbols_of p l) ≡ None
-  no_image l = subst (λ p. image_place (symbols_of p l) ≡ None) (sym stands.is) refl
-
   module _ (plan : Plan) (is_plan : plan ≡ flat_plan p.data_end (sizes_of p)) (x : Exec) (image : IsFlatExec p (layout_of p plan 16384) 16384 x) where
     image_q : IsFlatExec q (layout_of q (planned q) 16384) 16384 x
     image_q = subst (λ p. IsFlatExec p (layout_of p (planned p) 16384) 16384 x) stands.is (subst (λ plan. IsFlatExec p (layout_of p plan 16384) 16384 x) is_plan image)
@@ -108,8 +94,7 @@ module _ (o : Object) (first : IsFirst o) (p : Prog) (stands : StandsFor o p) wh
       image = image;
       valid = valid;
       file = is_file;
-      headline = flat_headline p no_frames 0 (first_judged o p first stands) plan 16384 (omega arith) (fits plan is_plan) x file image
-          (ap entries_of image.symbols ∙ no_entries (layout_of p plan 16384)) (ap image_place image.symbols ∙ no_image (layout_of p plan 16384));
+      headline = flat_headline p no_frames 0 (first_judged o p first stands) plan 16384 (omega arith) (fits plan is_plan) x file image;
     }
 
 -- ---- of what the code has

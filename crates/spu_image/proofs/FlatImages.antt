@@ -2,12 +2,10 @@
 use Rattle.std.proofs.Common.{◌≡◌, ℕ, zero, suc, ◌+◌, ◌-◌, ◌<◌, ◌≤◌, List, [], ◌∷◌, length, map, get_or, Option, None, refl, sym, ap, ◌∙◌, subst, arith}
 use Rattle.std.specs.List.{AllByRecursion, Contains}
 use Rattle.spu_word.specs.declared.limits.TheConstants.{DATA_START, QUAD_SIZE, STACK_TOP}
-use Rattle.spu_word.specs.declared.load.Area.{Area}
 use Rattle.spu_word.specs.declared.load.Inputs.{Inputs}
 use Rattle.spu_elf.specs.declared.executables.Segment.{Segment}
 use Rattle.spu_elf.specs.declared.executables.Exec.{Exec}
 use Rattle.spu_exec.specs.Entries.{Entry}
-use Rattle.spu_exec.specs.Transfers.{Stretch}
 use Rattle.spu_lift.specs.declared.program.Part as section
 use Rattle.spu_lift.specs.declared.program.Ear.{Ear}
 use Rattle.spu_lift.specs.declared.program.Prog.{Prog}
@@ -23,18 +21,18 @@ use Rattle.spu_ls.proofs.Beginning.{start_sound}
 use Rattle.spu_ideal.specs.Machine.{entry_of, IsInside}
 use Rattle.spu_ideal.specs.States.{IsJudged}
 use Rattle.spu_layout.specs.Layouts.{Layout, IsLaid, IsFlat}
-use Rattle.spu_layout.specs.declared.layout.Span.{Span}
 use Rattle.spu_layout.specs.Placing.{FitsFlat, layout_of}
 use Rattle.spu_layout.proofs.Flats.{planned, ends_behind, flat_is_laid, flat_is_flat}
 use Rattle.spu_image.specs.Images.{IsFlatExec}
 use Rattle.spu_image.specs.Headline.{CanStart, Hop, Headline}
-use Rattle.spu_image.proofs.Promised.{IsLinkable, linkable_of}
+use Rattle.spu_image.proofs.Promised.{linkable_of}
 use Rattle.spu_image.proofs.Relations.{HasData, IsStored}
 use Rattle.spu_image.proofs.Promising.{promised}
 use Rattle.spu_image.proofs.Placing as placing
 use Rattle.spu_image.proofs.Roots.{words, segment_is, segment_ends, root_words}
 use Rattle.spu_image.proofs.Starting.{begins, same_store}
 use Rattle.spu_image.proofs.FlatHops.{flat_hops}
+use Rattle.spu_image.proofs.GlobalSymbols.{entries_are_ears, no_image}
 
 -- ---- the data of a well-formed program
 
@@ -76,7 +74,7 @@ data_of p well = record {
 -- ---- an executable with the flat plan
 
 module _ (p : Prog) (frames : ℕ → ℕ) (need : ℕ) (judged : IsJudged p frames need) (limit : ℕ) (least : need ≤ limit) (below : (planned p).end ≤ STACK_TOP - limit)
-    (x : Exec) (file : List ℕ) (image : IsFlatExec p (layout_of p (planned p) limit) limit x) (entries : entries_of x.symbols ≡ map entry_of p.ears) (unnamed : image_place x.symbols ≡ None) where
+    (x : Exec) (file : List ℕ) (image : IsFlatExec p (layout_of p (planned p) limit) limit x) where
   abbrev l : Layout
   l = layout_of p (planned p) limit
 
@@ -88,6 +86,12 @@ module _ (p : Prog) (frames : ℕ → ℕ) (need : ℕ) (judged : IsJudged p fra
 
   flat : IsFlat l
   flat = flat_is_flat p (planned p) limit fits
+
+  entries : entries_of x.symbols ≡ map entry_of p.ears
+  entries = ap entries_of image.symbols ∙ entries_are_ears p l judged.formed
+
+  unnamed : image_place x.symbols ≡ None
+  unnamed = ap image_place image.symbols ∙ no_image p l judged.formed
 
   has : HasData p
   has = data_of p judged.formed
@@ -132,7 +136,7 @@ module _ (p : Prog) (frames : ℕ → ℕ) (need : ℕ) (judged : IsJudged p fra
 
 -- an executable of the program by a flat plan
 pub flat_headline : (p : Prog) (frames : ℕ → ℕ) (need : ℕ) → IsJudged p frames need → (plan : Plan) (limit : ℕ) → need ≤ limit → FitsFlat p plan limit → (x : Exec) (file : List ℕ) → IsFlatExec p (layout_of p plan limit) limit x
-    → entries_of x.symbols ≡ map entry_of p.ears → image_place x.symbols ≡ None → Headline p (layout_of p plan limit) frames limit need x file
-flat_headline p frames need judged plan limit least fits x file image entries unnamed =
+    → Headline p (layout_of p plan limit) frames limit need x file
+flat_headline p frames need judged plan limit least fits x file image =
     subst (λ q. Headline p (layout_of p q limit) frames limit need x file) (sym fits.planned)
-    (planned_headline p frames need judged limit least (subst (λ (q : Plan). q.end ≤ STACK_TOP - limit) fits.planned fits.below) x file (subst (λ q. IsFlatExec p (layout_of p q limit) limit x) fits.planned image) entries unnamed)
+    (planned_headline p frames need judged limit least (subst (λ (q : Plan). q.end ≤ STACK_TOP - limit) fits.planned fits.below) x file (subst (λ q. IsFlatExec p (layout_of p q limit) limit x) fits.planned image))

@@ -1,6 +1,5 @@
 -- What the code that makes an image takes of a program and its layout.
-use Rattle.std.proofs.Common.{◌≡◌, ◌≢◌, ℕ, zero, suc, ◌+◌, ◌-◌, ◌*◌, ◌%◌, ◌^◌, ◌<◌, ◌≤◌, List, length, Some, refl, sym, ap, ◌∙◌, subst, arith, true, false, pos}
-use Rattle.std.specs.Prelude.{slice_get}
+use Rattle.std.proofs.Common.{◌≡◌, ℕ, ◌%◌, ◌^◌, ◌<◌, ◌≤◌, refl, sym, ap, subst, arith, true, pos}
 use Rattle.spu_word.specs.declared.limits.TheConstants.{STORE_SIZE}
 use Rattle.spu_isa.specs.declared.operation.Op.{Op}
 use Rattle.spu_isa.specs.declared.operation.Op.TheVariants as op
@@ -13,14 +12,13 @@ use Rattle.spu_lift.specs.declared.program.Operand.{Operand}
 use Rattle.spu_lift.specs.declared.program.Operand.TheVariants as operand
 use Rattle.spu_lift.specs.declared.program.SymInst.{SymInst}
 use Rattle.spu_lift.specs.declared.program.Prog.{Prog}
-use Rattle.spu_lift.specs.Places.{instruction_at, place_in, kind_of, IsPlace}
+use Rattle.spu_lift.specs.Places.{place_in, IsPlace}
 use Rattle.spu_lift.specs.StartCode.{of_register, symbolic}
 use Rattle.spu_lift.specs.WellFormed.{IsCallee, IsWellFormed, IsOperand, IsTakenTarget, takes_number, takes_label}
 use Rattle.spu_layout.specs.declared.layout.Layout as held
 use Rattle.spu_layout.specs.declared.layout.Span.{Span}
 use Rattle.spu_layout.specs.Layouts.{Layout, IsLaid, IsFlat}
 use Rattle.spu_layout.specs.Labels.{address_of, label_function}
-use Rattle.spu_layout.specs.Placing.{layout_of}
 use Rattle.spu_layout.specs.Views.{function_count, layout_in}
 use Rattle.spu_layout.proofs.Flats.{flat_is_laid, flat_is_flat}
 use Rattle.spu_ideal.proofs.Lifted.{function_within}

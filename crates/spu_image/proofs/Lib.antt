@@ -27,10 +27,11 @@ pub mod Laid
 pub mod Filled
 pub mod Made
 pub mod Roots
+pub mod GlobalSymbols
 pub mod FlatImages
-pub mod FirstJudged
 pub mod FirstFiles
 pub mod FirstLinks
 pub mod Samples
 pub mod FlatSteps
 pub mod SampleRuns
+pub mod TourRuns

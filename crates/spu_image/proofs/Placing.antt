@@ -3,15 +3,14 @@ use Rattle.spu_word.specs.declared.load.Inputs.{Inputs}
 use Rattle.std.proofs.Common.{◌≡◌, ℕ, zero, suc, ◌+◌, ◌-◌, ◌*◌, ◌/◌, ◌%◌, ◌^◌, ◌<◌, ◌≤◌, ◌⊎◌, List, [], ◌∷◌, ◌++◌, length, map, get_or, Some, refl, sym, ap, ap₂, ◌∙◌, subst, arith, inl, inr, true}
 use Rattle.std.specs.Prelude.{◌&&◌, nat_le, nat_lt, slice_index}
 use Rattle.std.specs.List.{AllByRecursion}
-use Rattle.std.proofs.lemmas.Bool.{cond_both, cases_lt}
+use Rattle.std.proofs.lemmas.Bool.{cond_both}
 use Rattle.std.proofs.lemmas.Bool.Decides.{nat_tests}
 use Rattle.std.proofs.lemmas.List.{get_or_append_left, get_or-append-add}
 use Rattle.std.proofs.lemmas.List.FromFn.{length-map-range_with_len, get_or-map-range_with_len}
 use Rattle.spu_word.specs.Bytes.{be_digits}
 use Rattle.spu_word.specs.declared.load.Area.{Area}
 use Rattle.std.specs.Str.{bytes_eq}
-use Rattle.spu_exec.specs.Entries.{Entry, area_quad, quad_for}
-use Rattle.spu_exec.proofs.Sound.{quad_small}
+use Rattle.spu_exec.specs.Entries.{Entry, quad_for}
 use Rattle.spu_lift.specs.declared.program.Part as section
 use Rattle.spu_lift.specs.declared.program.SymInst.{SymInst}
 use Rattle.spu_lift.specs.declared.program.Prog.{Prog}

@@ -1,6 +1,5 @@
 -- What a hop needs of a program and of the symbolic state, and what one step of the machine then keeps.
 use Rattle.std.proofs.Common.{◌≡◌, ℕ, Some, ap, ◌∙◌, subst, inl, inr, arith}
-use Rattle.std.specs.Prelude.{slice_get}
 use Rattle.std.proofs.lemmas.Option.{slice_get_cases}
 use Rattle.spu_isa.specs.declared.operation.Kind.TheVariants as kind
 use Rattle.spu_lift.specs.declared.program.Label.{Label}

@@ -1,6 +1,6 @@
 -- What a hop rests on, and the relation that it keeps.
 use Rattle.spu_word.specs.declared.load.Inputs.{Inputs}
-use Rattle.std.specs.Prelude.{◌≡◌, ℕ, ◌+◌, ◌-◌, ◌*◌, ◌^◌, ◌<◌, ◌≤◌, List, length, map, slice_index, Some}
+use Rattle.std.specs.Prelude.{◌≡◌, ℕ, ◌+◌, ◌-◌, ◌*◌, ◌<◌, ◌≤◌, List, length, map, slice_index, Some}
 use Rattle.std.specs.List.{AllByRecursion}
 use Rattle.spu_word.specs.declared.limits.TheConstants.{DATA_START, QUAD_SIZE, STACK_TOP}
 use Rattle.spu_lift.specs.declared.program.SymInst.{SymInst}
@@ -12,7 +12,7 @@ use Rattle.spu_ls.specs.Stores.{Store, fetch, load}
 use Rattle.spu_ls.specs.Machine.{State}
 use Rattle.spu_ideal.specs.Bytes.{known_word}
 use Rattle.spu_ideal.specs.State.{Sym}
-use Rattle.spu_ideal.specs.Machine.{entry_of, start, run, IsInside}
+use Rattle.spu_ideal.specs.Machine.{entry_of, start, run}
 use Rattle.spu_layout.specs.Layouts.{Layout, IsFixed, IsShared}
 use Rattle.spu_layout.specs.Labels.{code}
 use Rattle.spu_image.specs.Agreeing.{Agrees}
@@ -37,7 +37,7 @@ pub record IsBegun (p : Prog) (l : Layout) (limit : ℕ) (given : Inputs) (first
   pub sound : IsSound first
   pub root : HasRoot p l first.store
 
--- parts 1 and 2 of the relation that a hop keeps: the states match, and the fixed bytes and the image are those of the start
+-- the relation that a hop keeps: the states match, and the fixed bytes and the image are those of the start
 pub record Kept (l : Layout) (first : State) (s : Sym) (m : State) : Type 0 where
   pub matched : Matches l s m
   pub sound : IsSound m

@@ -1,26 +1,25 @@
 -- Where the words of start code and sections stand in a load segment.
-use Rattle.std.proofs.Common.{◌≡◌, ℕ, zero, suc, ◌+◌, ◌-◌, ◌*◌, ◌/◌, ◌%◌, ◌<◌, ◌≤◌, List, [], ◌∷◌, ◌++◌, length, take, get_or, Option, Some, None, refl, sym, ap, ◌∙◌, subst, append_assoc, arith}
+use Rattle.std.proofs.Common.{◌≡◌, ℕ, zero, suc, ◌+◌, ◌*◌, ◌/◌, ◌<◌, ◌≤◌, List, [], ◌∷◌, ◌++◌, length, take, Option, Some, None, refl, sym, ap, ◌∙◌, subst, arith}
 use Rattle.std.specs.Prelude.{slice_get, slice_index, slice_index_or, sum}
 use Rattle.std.specs.List.{flat_map}
-use Rattle.std.proofs.lemmas.List.{length-append, length-map, get_or_append_left, get_or-append-add}
+use Rattle.std.proofs.lemmas.List.{length-append, get_or_append_left, get_or-append-add}
 use Rattle.std.proofs.lemmas.List.Concat.{get_or-flat_map}
 use Rattle.std.proofs.lemmas.List.Sums.{sum_by-cons}
 use Rattle.std.proofs.lemmas.Option.{slice_get_within}
-use Rattle.spu_word.specs.Bytes.{be_digits}
-use Rattle.spu_word.specs.declared.limits.TheConstants.{DATA_START, STACK_TOP}
+use Rattle.spu_word.specs.declared.limits.TheConstants.{DATA_START}
 use Rattle.spu_lift.specs.declared.program.SymInst.{SymInst}
 use Rattle.spu_lift.specs.declared.program.Function.{Function}
 use Rattle.spu_lift.specs.declared.program.CodeSection.{CodeSection}
 use Rattle.spu_lift.specs.declared.program.Prog.{Prog}
-use Rattle.spu_lift.specs.StartCode.{start_instructions, start_code}
+use Rattle.spu_lift.specs.StartCode.{start_instructions}
 use Rattle.spu_lift.specs.Places.{place_in, instruction_at}
 use Rattle.spu_lift.specs.WellFormed.{IsWellFormed}
 use Rattle.spu_plan.specs.Plans.{rounded}
 use Rattle.spu_layout.specs.Layouts.{Layout}
-use Rattle.spu_layout.specs.Placing.{section_sizes, sizes_of, section_start, function_start, at, layout_of}
-use Rattle.spu_layout.proofs.Flats.{planned, long, section_of, ends_behind}
+use Rattle.spu_layout.specs.Placing.{section_sizes, section_start, function_start, at, layout_of}
+use Rattle.spu_layout.proofs.Flats.{planned, section_of, ends_behind}
 use Rattle.spu_image.specs.Words.{IsWord}
-use Rattle.spu_image.specs.Images.{AreWords, AreSectionWords, Holds, IsLoadSegment, bytes_of_words, data_bytes, start_quad}
+use Rattle.spu_image.specs.Images.{AreWords, Holds, IsLoadSegment, bytes_of_words, data_bytes, start_quad}
 use Rattle.spu_image.proofs.Relations.{AreRootWords}
 use Rattle.spu_image.proofs.Placing.{words_length, data_length}
 use Rattle.spu_image.proofs.Made.{words_append}

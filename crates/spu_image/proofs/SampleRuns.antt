@@ -1,10 +1,9 @@
 -- Where the run of the sample is after its first hops, in addresses and words.
-use Rattle.std.proofs.Common.{◌≡◌, ℕ, zero, suc, Bool, ◌<◌, ◌≤◌, List, [], ◌∷◌, Some, refl, sym, ap, ap₂, ◌∙◌, subst, arith, pos}
+use Rattle.std.proofs.Common.{◌≡◌, ℕ, zero, suc, Bool, ◌<◌, ◌≤◌, [], ◌∷◌, Some, refl, sym, ap, ap₂, ◌∙◌, subst, arith, pos}
 use Rattle.spu_exec.specs.Tags.{status}
 use Rattle.spu_word.specs.Bytes.{word_of}
 use Rattle.spu_isa.specs.Table.{Decodes}
 use Rattle.spu_isa.proofs.Words.{one_word_lem}
-use Rattle.spu_lift.specs.declared.program.Prog.{Prog}
 use Rattle.spu_lift.specs.Places.{instruction_at}
 use Rattle.spu_ls.specs.declared.ending.TheConstants.{MAX_HOP_STEPS}
 use Rattle.spu_ls.specs.Hops.{Along}
@@ -17,7 +16,6 @@ use Rattle.spu_ideal.specs.Results.{are_known, computed_byte, symbolic_byte, lab
 use Rattle.spu_ideal.specs.Channels.{land_all, numbers_from}
 use Rattle.spu_ideal.specs.Machine.{with_entries, run, start, step, IsInside}
 use Rattle.spu_ideal.specs.State.{Sym, IsOutside}
-use Rattle.spu_ideal.specs.declared.ending.IdealEnd.TheVariants as ideal
 use Rattle.spu_ideal.specs.Samples.{nothing, sends_five, load_immediate}
 use Rattle.spu_ideal.proofs.Samples.{five_stops}
 use Rattle.spu_layout.specs.Labels.{code}

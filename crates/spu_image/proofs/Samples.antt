@@ -1,38 +1,33 @@
 -- The executable of an object of the first form can start, and that of the sample sends 5 and stops.
-use Rattle.std.proofs.Common.{◌≡◌, ℕ, zero, suc, ◌+◌, ◌-◌, ◌*◌, ◌<◌, ◌≤◌, List, [], ◌∷◌, length, Option, Some, None, Bool, true, false, cond, refl, sym, ap, ap₂, ◌∙◌, subst, arith, lit≤, pos, codes}
-use Rattle.std.specs.Prelude.{slice_get, nat_lt, nat_le, not, option_map}
+use Rattle.std.proofs.Common.{◌≡◌, ℕ, zero, suc, ◌+◌, ◌-◌, ◌*◌, ◌≤◌, List, [], ◌∷◌, length, Option, Some, None, true, cond, refl, sym, ap, ap₂, ◌∙◌, subst, arith, lit≤, pos, codes}
+use Rattle.std.specs.Prelude.{slice_get, nat_lt, not, option_map}
 use Rattle.std.proofs.lemmas.Bool.Decides.{nat_tests}
-use Rattle.spu_word.specs.Bytes.{be_number}
 use Rattle.spu_word.specs.declared.load.Area.{Area}
-use Rattle.spu_word.specs.declared.load.Inputs.{Inputs}
-use Rattle.spu_isa.specs.declared.operation.Op.TheVariants as op
 use Rattle.spu_isa.specs.declared.instruction.Inst.{Inst}
 use Rattle.spu_isa.specs.Table.{Decodes}
 use Rattle.spu_isa.proofs.Decoded.{one_instruction_lem}
 use Rattle.spu_elf.specs.declared.objects.Object.{Object}
 use Rattle.spu_elf.specs.declared.objects.Section.{Section}
 use Rattle.spu_elf.specs.declared.objects.Symbol.{Symbol}
-use Rattle.spu_elf.specs.declared.objects.SymKind.TheVariants as names
 use Rattle.spu_elf.specs.declared.executables.Segment.{Segment}
 use Rattle.spu_elf.specs.declared.executables.Exec.{Exec}
 use Rattle.spu_lift.specs.declared.program.Operand.TheVariants as operand
 use Rattle.spu_lift.specs.declared.program.SymInst.{SymInst}
 use Rattle.spu_lift.specs.declared.program.Prog.{Prog}
-use Rattle.spu_lift.specs.First.{StandsFor, IsCodeOf, IsPlainWord, first_program, main_function}
+use Rattle.spu_lift.specs.First.{StandsFor, IsCodeOf, IsPlainWord, first_program}
 use Rattle.spu_lift.specs.WellFormed.{IsWellFormed}
 use Rattle.spu_lift.proofs.FirstFormed.{first_section}
-use Rattle.spu_layout.specs.Layouts.{Layout, is_between}
+use Rattle.spu_layout.specs.Layouts.{is_between}
 use Rattle.spu_layout.specs.Placing.{layout_of}
-use Rattle.spu_ls.specs.Machine.{State, step}
+use Rattle.spu_ls.specs.Machine.{step}
 use Rattle.spu_ls.specs.declared.ending.RunEnd.TheVariants as machine
 use Rattle.spu_ls.specs.declared.admission.Misfit.{Misfit}
 use Rattle.spu_ls.specs.declared.admission.Misfit.TheVariants as misfits
-use Rattle.spu_ls.specs.Loading.{IsAdmitted, load_fault, fault_of, misfit_of, or_else, first_unresolved, first_overlap, first_unfit, first_outside, are_inside, is_in_store}
+use Rattle.spu_ls.specs.Loading.{load_fault, fault_of, misfit_of, or_else, first_unresolved, first_overlap, first_unfit, first_outside, are_inside, is_in_store}
 use Rattle.spu_ls.specs.Sound.{IsOverBytes}
 use Rattle.spu_ls.specs.Start.{image_of, start}
-use Rattle.spu_ideal.specs.Machine.{run, IsInside}
+use Rattle.spu_ideal.specs.Machine.{run}
 use Rattle.spu_ideal.specs.State.{IsOutside}
-use Rattle.spu_ideal.specs.declared.ending.IdealEnd.{IdealEnd}
 use Rattle.spu_ideal.specs.declared.ending.IdealEnd.TheVariants as ideal
 use Rattle.spu_ideal.specs.Samples.{nothing, sends_five, load_immediate, write_channel, go_back}
 use Rattle.spu_ideal.proofs.Samples.{five_stops, five_is_sent}
@@ -44,7 +39,7 @@ use Rattle.spu_layout.proofs.Flats.{planned}
 use Rattle.spu_image.specs.Images.{IsLoadSegment, symbols_of}
 use Rattle.spu_image.proofs.FirstFiles.{main_symbol, one_segment}
 use Rattle.spu_image.specs.Matching.{SameEnd}
-use Rattle.spu_image.specs.Headline.{CanStart, Hop, hops}
+use Rattle.spu_image.specs.Headline.{CanStart, hops}
 use Rattle.spu_image.specs.Linking.{IsLinked, no_frames}
 use Rattle.spu_image.specs.Samples.{sample, sample_text}
 use Rattle.spu_image.proofs.Roots.{segment_ends}

@@ -2,14 +2,12 @@
 use Rattle.spu_word.specs.declared.load.Inputs.{Inputs}
 use Rattle.std.proofs.Common.{◌≡◌, ℕ, zero, suc, ◌+◌, ◌%◌, ◌^◌, ◌<◌, ◌≤◌, List, [], length, get_or, Some, refl, sym, ap, ◌∙◌, subst, arith, cond, pos}
 use Rattle.std.specs.Prelude.{◌==◌, nat_lt, replicate, slice_get}
-use Rattle.std.specs.List.{AllByRecursion}
 use Rattle.std.proofs.lemmas.Bool.{cond_both, cond-true}
 use Rattle.std.proofs.lemmas.Bool.Decides.{nat_tests}
 use Rattle.spu_isa.specs.declared.operation.Op.TheVariants as op
 use Rattle.spu_exec.specs.Values.{HasBytes}
 use Rattle.spu_exec.specs.Places.{code_mask, quad_mask, place}
 use Rattle.spu_exec.specs.Transfers.{Stretch}
-use Rattle.spu_exec.proofs.Sound.{quad_small}
 use Rattle.spu_lift.specs.declared.program.Operand.TheVariants as operand
 use Rattle.spu_lift.specs.declared.program.SymInst.{SymInst}
 use Rattle.spu_lift.specs.declared.program.Prog.{Prog}

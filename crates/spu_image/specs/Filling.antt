@@ -1,5 +1,5 @@
 -- The words of code sections while they are filled in, function by function. No clause of a public call cites these.
-use Rattle.std.specs.Prelude.{◌≡◌, ℕ, zero, suc, ◌+◌, ◌*◌, ◌/◌, ◌<◌, ◌⊎◌, if◌then◌else◌, not, Bool, List, [], length, map, replicate, Some, slice_get, slice_index, slice_index_or}
+use Rattle.std.specs.Prelude.{◌≡◌, ℕ, suc, ◌*◌, ◌/◌, ◌<◌, ◌⊎◌, if◌then◌else◌, not, Bool, List, [], length, map, replicate, Some, slice_get, slice_index, slice_index_or}
 use Rattle.spu_word.specs.declared.limits.TheConstants.{WORD_SIZE}
 use Rattle.spu_lift.specs.declared.program.SymInst.{SymInst}
 use Rattle.spu_lift.specs.declared.program.Function.{Function}

@@ -1,21 +1,19 @@
 //! Laws of links and of the words that they make.
 
-ghost use Rattle.std.specs.Prelude.{◌≡◌, ◌<◌, ◌≤◌, ◌∷◌, [], ℕ, List, None, Some, map};
+ghost use Rattle.std.specs.Prelude.{◌≡◌, ◌<◌, ◌≤◌, ◌∷◌, [], ℕ, List, Some};
 ghost use Rattle.spu_word.specs.Bytes.{word_of};
 ghost use Rattle.spu_elf.specs.declared.objects.Object.{Object};
 ghost use Rattle.spu_elf.specs.declared.executables.Exec.{Exec};
 ghost use Rattle.spu_lift.specs.declared.program.Prog.{Prog};
-ghost use Rattle.spu_lift.specs.Places.{stack_pointer};
+ghost use Rattle.spu_lift.specs.Places.{link_register, stack_pointer};
 ghost use Rattle.spu_plan.specs.declared.plan.Plan.{Plan};
-ghost use Rattle.spu_ls.specs.Entries.{entries_of, image_place};
 ghost use Rattle.spu_ls.specs.Hops.{hop};
 ghost use Rattle.spu_ls.specs.Machine.{State, step};
 ghost use Rattle.spu_ls.specs.Stores.{fetch};
 ghost use Rattle.spu_ls.specs.Sound.{IsOverBytes};
 ghost use Rattle.spu_ls.specs.Start.{start};
 ghost use Rattle.spu_ls.specs.declared.ending.RunEnd.TheVariants as ending;
-ghost use Rattle.spu_ideal.specs.Machine.{entry_of};
-ghost use Rattle.spu_ideal.specs.Samples.{nothing, sends_five};
+ghost use Rattle.spu_ideal.specs.Samples.{nothing, sends_five, tours};
 ghost use Rattle.spu_ideal.specs.States.{IsJudged};
 ghost use Rattle.spu_layout.specs.Layouts.{Layout, IsFlat, areas, is_between, span};
 ghost use Rattle.spu_layout.specs.Placing.{FitsFlat, layout_of};
@@ -23,18 +21,17 @@ ghost use Rattle.spu_image.specs.Images.{IsFlatExec};
 ghost use Rattle.spu_image.specs.declared.outcome.Linked.{Linked};
 ghost use Rattle.spu_image.specs.Headline.{CanStart, Headline};
 ghost use Rattle.spu_image.specs.Linking.{IsLinked};
-ghost use Rattle.spu_image.specs.Samples.{after_hops, sample};
+ghost use Rattle.spu_image.specs.Samples.{after_hops, sample, tour_after, tour_layout};
 
 /// What is linked can start, with no mail and no areas.
 pub fn links_can_start()
     ensures { (objects : List Object) (limit : ℕ) (l : Linked) → IsLinked objects limit l → IsOverBytes l.exec l.file nothing → CanStart l.exec l.file nothing }
 {}
 
-/// An executable of a judged program by a flat plan keeps the promise of a link, where its symbols give the named areas
-/// of the program and no place of the image.
+/// An executable of a judged program by a flat plan keeps the promise of a link.
 pub fn flat_images_keep_the_promise()
     ensures { (p : Prog) (frames : ℕ → ℕ) (need : ℕ) → IsJudged p frames need → (plan : Plan) (limit : ℕ) → need ≤ limit → FitsFlat p plan limit → (x : Exec) (file : List ℕ)
-        → IsFlatExec p (layout_of p plan limit) limit x → entries_of x.symbols ≡ map entry_of p.ears → image_place x.symbols ≡ None → Headline p (layout_of p plan limit) frames limit need x file }
+        → IsFlatExec p (layout_of p plan limit) limit x → Headline p (layout_of p plan limit) frames limit need x file }
 {}
 
 /// In a flat layout each hop is one step.
@@ -60,4 +57,16 @@ pub fn sample_runs_where_it_lies()
     ensures sets { (l : Linked) → IsLinked (sample ∷ []) 16384 l → IsOverBytes l.exec l.file nothing → word_of ((after_hops l 2).regs 3) 0 ≡ 5 }
     ensures keeps { (l : Linked) → IsLinked (sample ∷ []) 16384 l → IsOverBytes l.exec l.file nothing → (a : ℕ) → 128 ≤ a → a < 176 → (after_hops l 5).store a ≡ (start l.exec l.file nothing).store a }
     ensures lies { (l : Linked) → IsLinked (sample ∷ []) 16384 l → areas (layout_of l.prog l.plan 16384) ≡ span 128 128 ∷ span 128 176 ∷ span 176 176 ∷ span 245728 262144 ∷ [] }
+{}
+
+/// The promise at a program with a frame, a call, a pointer call and data with a label, up to its stop. After five hops
+/// the pointer call has come to the second function, whose address stands in the data, with the link of the place behind
+/// the call and the frame of 32 bytes below the top; after 23 the machine has sent what the symbolic run has, and stopped.
+pub fn tour_runs_in_its_image()
+    ensures enters { (x : Exec) (file : List ℕ) → IsFlatExec tours tour_layout 16384 x → CanStart x file nothing → (tour_after x file 5).pc ≡ 240 }
+    ensures labels { (x : Exec) (file : List ℕ) → IsFlatExec tours tour_layout 16384 x → CanStart x file nothing → (tour_after x file 5).store 131 ≡ 240 }
+    ensures links { (x : Exec) (file : List ℕ) → IsFlatExec tours tour_layout 16384 x → CanStart x file nothing → word_of ((tour_after x file 5).regs link_register) 0 ≡ 192 }
+    ensures points { (x : Exec) (file : List ℕ) → IsFlatExec tours tour_layout 16384 x → CanStart x file nothing → word_of ((tour_after x file 5).regs stack_pointer) 0 ≡ 262080 }
+    ensures sends { (x : Exec) (file : List ℕ) → IsFlatExec tours tour_layout 16384 x → CanStart x file nothing → (tour_after x file 23).output ≡ 14 ∷ 1 ∷ [] }
+    ensures stops { (x : Exec) (file : List ℕ) → IsFlatExec tours tour_layout 16384 x → CanStart x file nothing → (tour_after x file 23).ended ≡ Some (ending.Stop 0x2000) }
 {}

@@ -4,5 +4,7 @@
 pub mod constants;
 pub mod laws;
 mod layout;
+#[cfg(test)]
+mod tests;
 
 pub use layout::{Areas, Layout, Span, lay_out, section_sizes};

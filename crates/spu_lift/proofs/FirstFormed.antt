@@ -1,5 +1,5 @@
 -- Programs of objects of the first form are well formed.
-use Rattle.std.proofs.Common.{◌≡◌, ℕ, zero, suc, ◌*◌, ◌^◌, ◌<◌, ◌≤◌, List, [], ◌∷◌, length, Some, codes, refl, sym, ap, subst, ◌∙◌, arith, lit≤, lit<, false}
+use Rattle.std.proofs.Common.{◌≡◌, ℕ, zero, suc, ◌*◌, ◌^◌, ◌<◌, ◌≤◌, List, [], ◌∷◌, length, Some, refl, sym, ap, subst, ◌∙◌, arith, lit≤, lit<, false}
 use Rattle.std.specs.Prelude.{slice_get, pos}
 use Rattle.std.specs.List.{Contains}
 use Rattle.std.proofs.lemmas.Int.{ints}
@@ -184,7 +184,10 @@ module _ (name : List ℕ) (size : ℕ) (code : List SymInst) where
       data_end = lit≤ tt;
       ordered = lit≤ tt;
       parts = λ part c. absurd (none_in part c);
+      globals = λ g c. absurd (none_in g c);
+      distinct = λ i j g h eg eh same. (let within = slice_get_within [] i g eg in absurd (omega (arith, within)));
       ears = λ ear c. absurd (none_in ear c);
+      ears_are_global = tt;
     }
 
 pub first_section : (t s : Section) → t ∷ [] ≡ s ∷ [] → t ≡ s

@@ -1,6 +1,6 @@
 -- When a program is well formed. Every list of objects that is lifted gives such a program, and whatever takes a program rests on
 -- this alone. The operands of an instruction are those of the SPU ABI's relocations on it; the rest is this project's own.
-use Rattle.std.specs.Prelude.{◌≡◌, ◌≢◌, ℕ, ◌+◌, ◌*◌, ◌%◌, ◌^◌, ◌<◌, ◌≤◌, ◌⊎◌, Bool, true, false, List, [], ◌∷◌, length, All, Some, slice_get, pos}
+use Rattle.std.specs.Prelude.{◌≡◌, ◌≢◌, ℕ, ◌+◌, ◌*◌, ◌%◌, ◌^◌, ◌<◌, ◌≤◌, ◌⊎◌, Bool, true, false, List, [], ◌∷◌, ◌++◌, length, All, Some, slice_get, codes, pos}
 use Rattle.std.specs.List.{Contains}
 use Rattle.spu_word.specs.declared.limits.TheConstants.{DATA_START, MAX_SECTION_SIZE, QUAD_SIZE, WORD_SIZE}
 use Rattle.spu_isa.specs.declared.operation.Kind.{Kind}
@@ -20,6 +20,7 @@ use Rattle.spu_lift.specs.declared.program.CodeSection.{CodeSection}
 use Rattle.spu_lift.specs.declared.program.WordLabel.{WordLabel}
 use Rattle.spu_lift.specs.declared.program.Part.{Part}
 use Rattle.spu_lift.specs.declared.program.Ear.{Ear}
+use Rattle.spu_lift.specs.declared.program.Global_.{Global_}
 use Rattle.spu_lift.specs.declared.program.Prog.{Prog}
 use Rattle.spu_lift.specs.Places.{instruction_at, taken_places, kind_of, link_register, IsPlace}
 use Rattle.spu_lift.specs.StartCode.{start_code}
@@ -120,6 +121,30 @@ pub record IsEar (p : Prog) (ear : Ear) : Type 0 where
   pub from : part.address ≤ ear.address
   pub to : ear.address + QUAD_SIZE ≤ part.address + part.size
 
+-- a global symbol of data lies in a section of data, and doesn't have the name that tells where an executable's file lies
+pub record IsGlobal (p : Prog) (g : Global_) : Type 0 where
+  pub named : IsName g.name
+  pub free : g.name ≢ codes "__image_ea"
+  pub part : Part
+  pub there : Contains p.parts part
+  pub from : part.address ≤ g.address
+  pub to : g.address + g.size ≤ part.address + part.size
+
+abbrev pub AreDistinct : List Global_ → Type 0
+AreDistinct globals = (i j : ℕ) (g h : Global_) → slice_get globals i ≡ Some g → slice_get globals j ≡ Some h → g.name ≡ h.name → i ≡ j
+
+-- the global symbol of a named area has the area's name behind `_EAR_`
+pub record IsEarOf (g : Global_) (ear : Ear) : Type 0 where
+  pub name : g.name ≡ codes "_EAR_" ++ ear.name
+  pub some : ear.name ≢ []
+  pub address : g.address ≡ ear.address
+
+-- the named areas are those of some of the global symbols, in their order: of the ones in sections named `.toe`
+abbrev pub AreEars : List Global_ → List Ear → Type 0
+AreEars globals [] = Unit {0}
+AreEars [] (ear ∷ ears) = ⊥
+AreEars (g ∷ globals) (ear ∷ ears) = (IsEarOf g ear × AreEars globals ears) ⊎ AreEars globals (ear ∷ ears)
+
 -- ---- programs
 
 pub record IsWellFormed (p : Prog) : Type 0 where
@@ -143,4 +168,7 @@ pub record IsWellFormed (p : Prog) : Type 0 where
   pub data_end : p.data_end ≤ MAX_DATA_END
   pub ordered : AreInOrder DATA_START p.parts p.data_end
   pub parts : (part : Part) → Contains p.parts part → IsPart p part
+  pub globals : (g : Global_) → Contains p.globals g → IsGlobal p g
+  pub distinct : AreDistinct p.globals
   pub ears : (ear : Ear) → Contains p.ears ear → IsEar p ear
+  pub ears_are_global : AreEars p.globals p.ears

@@ -1,5 +1,5 @@
 -- A start over bytes is sound.
-use Rattle.std.proofs.Common.{◌≡◌, ℕ, ◌%◌, ◌/◌, ◌^◌, ◌<◌, List, [], ◌∷◌, length, Option, Some, None, refl, sym, subst, arith}
+use Rattle.std.proofs.Common.{◌≡◌, ℕ, ◌%◌, ◌/◌, ◌^◌, ◌<◌, List, [], ◌∷◌, length, Option, Some, None, true, refl, sym, subst, arith}
 use Rattle.std.specs.Prelude.{nat_lt, replicate, option_map}
 use Rattle.std.specs.List.{All}
 use Rattle.std.specs.Str.{bytes_eq}
@@ -14,8 +14,8 @@ use Rattle.spu_word.specs.declared.load.Inputs.{Inputs}
 use Rattle.spu_elf.specs.declared.executables.Segment.{Segment}
 use Rattle.spu_elf.specs.declared.executables.Exec.{Exec}
 use Rattle.spu_exec.specs.Entries.{Entry, area_quad, quad_for}
-use Rattle.spu_exec.specs.Tags.{IsWaiting}
-use Rattle.spu_exec.specs.Transfers.{Stretch}
+use Rattle.spu_exec.specs.Transfers.{Stretch, is_taken}
+use Rattle.spu_exec.specs.declared.transfers.Transfer.{Transfer}
 use Rattle.spu_exec.specs.Values.{HasBytes}
 use Rattle.spu_exec.proofs.Sound.{quad_small}
 use Rattle.spu_ls.specs.declared.admission.Misfit.{Misfit}
@@ -81,10 +81,10 @@ start_sound x file i h e =
         words = λ n. omega arith;
         update = tt;
         few = omega arith;
-        waiting = All-nil IsWaiting;
         mail = h.mail;
         output = All-nil (λ w. w < 2 ^ 32);
         room = omega arith;
       };
+      waiting = All-nil (λ (t : Transfer). is_taken (image_of file i) i.areas t ≡ true);
       place = masked x.entry;
     }

@@ -1,11 +1,11 @@
 -- Each step of the machine keeps a state sound, whatever it does.
-use Rattle.std.proofs.Common.{◌≡◌, ℕ, zero, suc, ◌+◌, ◌-◌, ◌%◌, ◌^◌, ◌<◌, ◌≤◌, List, [], ◌∷◌, ◌++◌, length, take, drop, Option, Some, None, true, Bool, cond, filter, refl, arith, length-append}
-use Rattle.std.specs.Prelude.{◌==◌, ◌&&◌, not, nat_le, nat_lt, min, slice_index}
-use Rattle.std.proofs.lemmas.Bool.{and_parts, cond_both, leb-true, ltb-true}
+use Rattle.std.proofs.Common.{◌≡◌, ℕ, zero, suc, ◌+◌, ◌-◌, ◌^◌, ◌<◌, ◌≤◌, List, [], ◌∷◌, ◌++◌, length, take, drop, Option, Some, None, true, Bool, cond, filter, refl, arith, length-append}
+use Rattle.std.specs.Prelude.{◌==◌, ◌&&◌, not, nat_le, nat_lt, slice_index}
+use Rattle.std.proofs.lemmas.Bool.{cond_both}
 use Rattle.std.proofs.lemmas.Bool.Decides.{nat_tests}
 use Rattle.std.proofs.lemmas.List.{length-drop}
 use Rattle.std.proofs.lemmas.List.Elements.{All-append, All-cons, All-drop, All-filter, All-nil, All-tail}
-use Rattle.spu_word.specs.declared.limits.TheConstants.{OUTBOX_SIZE, QUAD_SIZE, QUEUE_SIZE, STORE_SIZE, WORD_SIZE}
+use Rattle.spu_word.specs.declared.limits.TheConstants.{OUTBOX_SIZE, QUAD_SIZE, QUEUE_SIZE, WORD_SIZE}
 use Rattle.spu_word.specs.Bytes.{word_of, quad_of}
 use Rattle.spu_isa.specs.declared.operation.Op.{Op}
 use Rattle.spu_isa.specs.declared.operation.Op.TheVariants as op
@@ -14,21 +14,21 @@ use Rattle.spu_isa.specs.declared.operation.Kind.TheVariants as kind
 use Rattle.spu_isa.specs.declared.instruction.Inst.{Inst}
 use Rattle.spu_isa.specs.Table.{row_of}
 use Rattle.spu_isa.specs.Decoding.{decoded}
-use Rattle.spu_exec.specs.declared.channels.TheConstants.{MFC_CMD, MFC_RD_TAG_MASK, MFC_RD_TAG_STAT, MFC_WR_TAG_MASK, MFC_WR_TAG_UPDATE, SPU_RD_IN_MBOX, SPU_WR_OUT_MBOX, TAG_COUNT}
+use Rattle.spu_exec.specs.declared.channels.TheConstants.{MFC_CMD, MFC_RD_TAG_MASK, MFC_RD_TAG_STAT, MFC_WR_TAG_MASK, MFC_WR_TAG_UPDATE, SPU_RD_IN_MBOX, SPU_WR_OUT_MBOX}
 use Rattle.spu_exec.specs.declared.transfers.Form.{Form}
 use Rattle.spu_exec.specs.declared.transfers.Transfer.{Transfer}
 use Rattle.spu_exec.specs.Channels.{count_of, is_counted, is_update, is_written}
 use Rattle.spu_exec.specs.Places.{code_mask, place, place_of}
-use Rattle.spu_exec.specs.Tags.{AllWaiting, IsWaiting, is_landing, status, with_tags, without_tags}
-use Rattle.spu_exec.specs.Transfers.{Stretch, described, form_of, is_size, is_taken, reached, some_holds}
+use Rattle.spu_exec.specs.Tags.{is_landing, status, with_tags, without_tags}
+use Rattle.spu_exec.specs.Transfers.{described, form_of, is_taken}
 use Rattle.spu_exec.specs.Values.{HasBytes}
 use Rattle.spu_exec.proofs.Sound.{quad_small, value_bytes, value_length}
 use Rattle.spu_ls.specs.Stores.{Store, bytes_from, load, save}
 use Rattle.spu_ls.specs.Machine.{State, steps, put, put_word, goes, sets, ends, saves, sends, updates, lands, makes_room, waits_last, commands, writes, takes, answers_by, answers, reads, is_pending, counts, uses_channel, acts, obeys, unless_ended, step}
-use Rattle.spu_ls.specs.Sound.{AreWords, AreRegisters, IsPlace, IsSound}
+use Rattle.spu_ls.specs.Sound.{AreTaken, AreWords, AreRegisters, IsPlace, IsSound}
 use Rattle.spu_ls.specs.declared.ending.RunEnd.{RunEnd}
 use Rattle.spu_ls.specs.declared.ending.RunEnd.TheVariants as ending
-use Rattle.spu_ls.proofs.Memories.{land_sound}
+use Rattle.spu_ls.proofs.Memories.{land_all_taken, land_sound, land_taken}
 
 -- ---- places
 
@@ -83,13 +83,13 @@ word_low quad h =
 -- ---- kinds of steps
 
 goes_sound : (p : ℕ) (s : State) → IsSound s → IsPlace p → IsSound (goes p s)
-goes_sound p s h at = record { memory = h.memory; registers = h.registers; channels = h.channels; place = at }
+goes_sound p s h at = record { memory = h.memory; registers = h.registers; channels = h.channels; waiting = h.waiting; place = at }
 
 ends_sound : (e : RunEnd) (s : State) → IsSound s → IsSound (ends e s)
-ends_sound e s h = record { memory = h.memory; registers = h.registers; channels = h.channels; place = h.place }
+ends_sound e s h = record { memory = h.memory; registers = h.registers; channels = h.channels; waiting = h.waiting; place = h.place }
 
 sets_sound : (t : ℕ) (quad : List ℕ) (p : ℕ) (s : State) → IsSound s → IsPlace p → HasBytes quad → length quad ≡ QUAD_SIZE → IsSound (sets t quad p s)
-sets_sound t quad p s h at small whole = record { memory = h.memory; registers = put_registers t quad s.regs h.registers small whole; channels = h.channels; place = at }
+sets_sound t quad p s h at small whole = record { memory = h.memory; registers = put_registers t quad s.regs h.registers small whole; channels = h.channels; waiting = h.waiting; place = at }
 
 word_sound : (t v p : ℕ) (s : State) → IsSound s → IsPlace p → IsSound (sets t (quad_of v 0 0 0) p s)
 word_sound t v p s h at = sets_sound t (quad_of v 0 0 0) p s h at (quad_small v 0 0 0) refl
@@ -105,16 +105,23 @@ saves_sound at t p s h to = record {
   };
   registers = h.registers;
   channels = h.channels;
+  waiting = h.waiting;
   place = to;
 }
 
 -- ---- channels
 
 lands_sound : (ts : List Transfer) (s : State) → IsSound s → IsSound (lands ts s)
-lands_sound ts s h = record { memory = land_sound s.image ts (record { store = s.store; areas = s.areas }) h.memory; registers = h.registers; channels = h.channels; place = h.place }
+lands_sound ts s h = record {
+  memory = land_sound s.image ts (record { store = s.store; areas = s.areas }) h.memory;
+  registers = h.registers;
+  channels = h.channels;
+  waiting = land_all_taken s.image ts (record { store = s.store; areas = s.areas }) s.queue h.waiting;
+  place = h.place;
+}
 
 -- a state whose transfers are fewer
-queued : (ts : List Transfer) (s : State) → IsSound s → length ts ≤ QUEUE_SIZE → AllWaiting ts → IsSound (record s { queue = ts })
+queued : (ts : List Transfer) (s : State) → IsSound s → length ts ≤ QUEUE_SIZE → AreTaken s.image s.areas ts → IsSound (record s { queue = ts })
 queued ts s h few all = record {
   memory = h.memory;
   registers = h.registers;
@@ -122,50 +129,46 @@ queued ts s h few all = record {
     words = h.channels.words;
     update = h.channels.update;
     few = few;
-    waiting = all;
     mail = h.channels.mail;
     output = h.channels.output;
     room = h.channels.room;
   };
+  waiting = all;
   place = h.place;
 }
 
-record HasRoom (s : State) : Type 0 where
+-- a state in which a transfer that a state before it could carry out can wait
+record HasRoom (before s : State) : Type 0 where
   sound : IsSound s
   room : length s.queue < QUEUE_SIZE
+  taken : (t : Transfer) → is_taken before.image before.areas t ≡ true → is_taken s.image s.areas t ≡ true
 
-room_sound : (s : State) → IsSound s → HasRoom (makes_room s)
+room_sound : (s : State) → IsSound s → HasRoom s (makes_room s)
 room_sound s h =
-    cond_both (length s.queue == QUEUE_SIZE) _ _ HasRoom
+    cond_both (length s.queue == QUEUE_SIZE) _ _ (HasRoom s)
     (λ is.
     let full : length s.queue ≡ QUEUE_SIZE = grind (arith, nat_tests) in
     let left : length (drop 1 s.queue) ≡ length s.queue - 1 = length-drop 1 s.queue in
     record {
-      sound = lands_sound (take 1 s.queue) (record s { queue = drop 1 s.queue }) (queued (drop 1 s.queue) s h (omega arith) (All-drop IsWaiting 1 s.queue h.channels.waiting));
+      sound = lands_sound (take 1 s.queue) (record s { queue = drop 1 s.queue }) (queued (drop 1 s.queue) s h (omega arith) (All-drop (λ (t : Transfer). is_taken s.image s.areas t ≡ true) 1 s.queue h.waiting));
       room = omega arith;
+      taken = land_taken s.image (take 1 s.queue) (record { store = s.store; areas = s.areas });
     })
-    (λ is. let few : length s.queue ≤ QUEUE_SIZE = h.channels.few in record { sound = h; room = grind (arith, nat_tests) })
+    (λ is. let few : length s.queue ≤ QUEUE_SIZE = h.channels.few in record { sound = h; room = grind (arith, nat_tests); taken = λ t e. e })
 
-taken_waits : (image : Stretch) (s : State) (t : Transfer) → is_taken image s.areas t ≡ true → IsWaiting t
-taken_waits image s t e =
-    let shaped = and_parts (is_size t.size && (nat_lt t.tag TAG_COUNT && ((t.local % QUAD_SIZE == t.ea % QUAD_SIZE) && ((t.local % min t.size QUAD_SIZE == 0) && nat_le (t.local + t.size) STORE_SIZE)))) (some_holds t.ea t.size (reached t.form image s.areas)) e in
-    let b = and_parts (is_size t.size) _ shaped.0 in
-    let c = and_parts (nat_lt t.tag TAG_COUNT) _ b.1 in
-    let d = and_parts (t.local % QUAD_SIZE == t.ea % QUAD_SIZE) _ c.1 in
-    let f = and_parts (t.local % min t.size QUAD_SIZE == 0) _ d.1 in
-    record { tag = ltb-true t.tag TAG_COUNT c.0; inside = leb-true (t.local + t.size) STORE_SIZE f.1 }
-
-joins : (t : Transfer) (s : State) → HasRoom s → IsWaiting t → IsSound (waits_last t s)
-joins t s h w =
+joins : (t : Transfer) (before s : State) → HasRoom before s → is_taken before.image before.areas t ≡ true → IsSound (waits_last t s)
+joins t before s h e =
     let room = h.room in
     let more = length-append s.queue (t ∷ []) in
-    queued (s.queue ++ t ∷ []) s h.sound (omega arith) (All-append IsWaiting s.queue (t ∷ []) h.sound.channels.waiting (All-cons IsWaiting t [] w (All-nil IsWaiting)))
+    queued (s.queue ++ t ∷ []) s h.sound (omega arith)
+    (All-append (λ (u : Transfer). is_taken s.image s.areas u ≡ true) s.queue (t ∷ []) h.sound.waiting
+    (All-cons (λ (u : Transfer). is_taken s.image s.areas u ≡ true) t [] (h.taken t e) (All-nil (λ (u : Transfer). is_taken s.image s.areas u ≡ true))))
 
 commands_sound : (o : Option Form) (p : ℕ) (s : State) → IsSound s → IsPlace p → IsSound (commands o p s)
 commands_sound None p s h at = ends_sound _ s h
 commands_sound (Some form) p s h at =
     cond_both (is_taken s.image s.areas (described form s.channels)) _ _ IsSound
-    (λ is. goes_sound p (waits_last (described form s.channels) (makes_room s)) (joins (described form s.channels) (makes_room s) (room_sound s h) (taken_waits s.image s (described form s.channels) is)) at)
+    (λ is. goes_sound p (waits_last (described form s.channels) (makes_room s)) (joins (described form s.channels) s (makes_room s) (room_sound s h) is) at)
     (λ is. ends_sound _ s h)
 
 sends_sound : (w p : ℕ) (s : State) → IsSound s → IsPlace p → w < 2 ^ 32 → IsSound (sends w p s)
@@ -182,11 +185,11 @@ sends_sound w p s h at low =
         words = h.channels.words;
         update = h.channels.update;
         few = h.channels.few;
-        waiting = h.channels.waiting;
         mail = h.channels.mail;
         output = All-append (λ w. w < 2 ^ 32) s.output (w ∷ []) h.channels.output (All-cons (λ w. w < 2 ^ 32) w [] low (All-nil (λ w. w < 2 ^ 32)));
         room = omega arith;
       };
+      waiting = h.waiting;
       place = at;
     })
 
@@ -200,11 +203,11 @@ updates_sound w p s h at =
         words = h.channels.words;
         update = is;
         few = h.channels.few;
-        waiting = h.channels.waiting;
         mail = h.channels.mail;
         output = h.channels.output;
         room = h.channels.room;
       };
+      waiting = h.waiting;
       place = at;
     })
     (λ is. ends_sound _ s h)
@@ -217,11 +220,11 @@ keeps_sound n w p s h at low = record {
     words = λ k. cond_both (k == n) w (s.channels k) (λ v. v < 2 ^ 32) (λ is. low) (λ is. h.channels.words k);
     update = h.channels.update;
     few = h.channels.few;
-    waiting = h.channels.waiting;
     mail = h.channels.mail;
     output = h.channels.output;
     room = h.channels.room;
   };
+  waiting = h.waiting;
   place = at;
 }
 
@@ -241,11 +244,11 @@ takes_sound (w ∷ mail) t p s h at words = record {
     words = h.channels.words;
     update = h.channels.update;
     few = h.channels.few;
-    waiting = h.channels.waiting;
     mail = All-tail (λ w. w < 2 ^ 32) w mail words;
     output = h.channels.output;
     room = h.channels.room;
   };
+  waiting = h.waiting;
   place = at;
 }
 
@@ -270,11 +273,12 @@ answers_sound (Some u) t p s h at = by (is_landing u (s.channels MFC_WR_TAG_MASK
         words = h.channels.words;
         update = tt;
         few = fewer (λ (x : Transfer). not (test x.tag)) s.queue QUEUE_SIZE h.channels.few;
-        waiting = All-filter (λ (x : Transfer). not (test x.tag)) IsWaiting s.queue h.channels.waiting;
         mail = h.channels.mail;
         output = h.channels.output;
         room = h.channels.room;
       };
+      waiting = land_all_taken s.image (with_tags test s.queue) (record { store = s.store; areas = s.areas }) (without_tags test s.queue)
+          (All-filter (λ (x : Transfer). not (test x.tag)) (λ (t : Transfer). is_taken s.image s.areas t ≡ true) s.queue h.waiting);
       place = at;
     }
 

@@ -1,5 +1,5 @@
 -- Areas whose names are one letter, each the next.
-use Rattle.std.proofs.Common.{◌≡◌, ℕ, zero, suc, ◌+◌, List, [], ◌∷◌, ◌++◌, length, Option, Some, None, refl, sym, ap, ◌∙◌, subst, arith}
+use Rattle.std.proofs.Common.{◌≡◌, ℕ, zero, suc, ◌+◌, List, [], ◌∷◌, ◌++◌, length, Some, None, sym, ap, ◌∙◌, subst, arith, length-append}
 use Rattle.std.specs.Prelude.{slice_get}
 use Rattle.spu_word.specs.declared.load.Area.{Area}
 use Rattle.spu_ls.specs.Loading.{AreDistinct}
@@ -9,7 +9,7 @@ abbrev pub AreLettered : ℕ → List Area → Type 0
 AreLettered n [] = Unit {0}
 AreLettered n (a ∷ areas) = (a.name ≡ n ∷ []) × AreLettered (n + 1) areas
 
-pub one_more : (n : ℕ) (areas : List Area) (a : Area) → AreLettered n areas → a.name ≡ (n + length areas) ∷ [] → AreLettered n (areas ++ a ∷ [])
+one_more : (n : ℕ) (areas : List Area) (a : Area) → AreLettered n areas → a.name ≡ (n + length areas) ∷ [] → AreLettered n (areas ++ a ∷ [])
 one_more n [] a h e = (subst (λ k. a.name ≡ k ∷ []) (omega arith) e, _)
 one_more n (x ∷ areas) a h e = (h.0, one_more (n + 1) areas a h.1 (subst (λ k. a.name ≡ k ∷ []) (omega arith) e))
 
@@ -26,3 +26,12 @@ lettered_distinct n areas h i j a b p q same =
     let e : (n + i) ∷ [] ≡ (n + j) ∷ [] = sym (letter_at n areas i a h p) ∙ same ∙ letter_at n areas j b h q in
     let s : n + i ≡ n + j = cc in
     omega (arith, s)
+
+-- one more area after as many as the number of its letter
+pub lettered_more : (n k : ℕ) (areas more : List Area) (a : Area) → (length areas ≡ k) × AreLettered n areas → a.name ≡ (n + k) ∷ [] → more ≡ areas ++ a ∷ [] → (length more ≡ k + 1) × AreLettered n more
+lettered_more n k areas more a h e is =
+    let size = length-append areas (a ∷ []) in
+    let count : length areas ≡ k = h.0 in
+    let whole : (length (areas ++ a ∷ []) ≡ k + 1) × AreLettered n (areas ++ a ∷ []) =
+    (omega arith, one_more n areas a h.1 (e ∙ ap (λ j. (n + j) ∷ []) (sym count))) in
+    subst (λ xs. (length xs ≡ k + 1) × AreLettered n xs) (sym is) whole

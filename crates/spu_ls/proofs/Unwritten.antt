@@ -17,7 +17,7 @@ use Rattle.spu_exec.specs.declared.channels.TheConstants.{MFC_CMD, MFC_RD_TAG_MA
 use Rattle.spu_exec.specs.declared.transfers.Form.{Form}
 use Rattle.spu_exec.specs.Channels.{is_counted, is_update, is_written}
 use Rattle.spu_exec.specs.Transfers.{described, form_of, is_taken}
-use Rattle.spu_ls.specs.Machine.{State, put, goes, sets, ends, sends, updates, makes_room, commands, writes, takes, answers, reads, counts, uses_channel, acts, obeys, unless_ended, step}
+use Rattle.spu_ls.specs.Machine.{State, put, goes, ends, makes_room, commands, writes, takes, answers, reads, counts, uses_channel, acts, obeys, unless_ended, step}
 use Rattle.spu_ls.specs.Stores.{fetch}
 use Rattle.spu_ls.specs.declared.ending.RunEnd.{RunEnd}
 

@@ -8,12 +8,12 @@ mod ending;
 mod entries;
 mod kept;
 mod landing;
+#[cfg(test)]
+mod load_tests;
 mod loading;
 mod local_store;
 mod soundness;
 mod stepping;
-#[cfg(test)]
-mod load_tests;
 #[cfg(test)]
 mod tests;
 #[cfg(test)]

@@ -34,7 +34,7 @@ fn words_of(alloc: Global, words: &[u32]) -> Result<Seq<u32>, OutOfMemory> {
 pub const IMAGE: u64 = 0x1_4000_0000;
 
 /// Areas `a`, `b` and so on, each with its effective address and bytes.
-#[tactic(auto, using(crate::proofs::Trials::one_more, crate::proofs::Trials::lettered_distinct))]
+#[tactic(auto, using(crate::proofs::Trials::lettered_distinct))]
 fn areas_of(alloc: Global, rows: &[(u64, &[u8])]) -> Result<Seq<Area>, OutOfMemory>
     requires { length rows.now ≤ MAX_AREAS }
     ensures distinct { IfOk result (λ areas. AreDistinct areas) }
@@ -66,8 +66,23 @@ fn inputs_of(alloc: Global, mail: &[u32], rows: &[(u64, &[u8])]) -> Result<Input
     })
 }
 
-/// What a load of an executable answers, where it has memory.
+/// What a load of an executable with these inputs answers, where it has memory.
 #[tactic(auto, using(crate::proofs::Starting::no_steps))]
+fn load_with(alloc: Global, x: &Exec, inputs: &Inputs) -> Result<Machine, LoadFault>
+    requires distinct { AreDistinct inputs.now.areas }
+    requires few { length inputs.now.areas ≤ MAX_AREAS }
+    requires place { inputs.now.image_ea ≡ IMAGE }
+    ensures { IfOk result (λ m. (state_of m).steps ≡ 0) }
+{
+    if !x.valid() || inputs.mail.len() > MAX_MAIL as usize {
+        return Err(LoadFault::OutOfMemory);
+    }
+    let file = write_exec(alloc, x).map_err(|_| LoadFault::OutOfMemory)?;
+    let m = Machine::load(alloc, x, file.as_slice(), inputs)?;
+    Ok(m)
+}
+
+/// And with this mail and these areas.
 pub fn load(
     alloc: Global,
     x: &Exec,
@@ -77,12 +92,10 @@ pub fn load(
     requires { length rows.now ≤ MAX_AREAS }
     ensures { IfOk result (λ m. (state_of m).steps ≡ 0) }
 {
-    if !x.valid() || mail.len() > MAX_MAIL as usize {
-        return Err(LoadFault::OutOfMemory);
+    match inputs_of(alloc, mail, rows) {
+        Ok(inputs) => load_with(alloc, x, &inputs),
+        Err(_) => Err(LoadFault::OutOfMemory),
     }
-    let inputs = inputs_of(alloc, mail, rows).map_err(|_| LoadFault::OutOfMemory)?;
-    let file = write_exec(alloc, x).map_err(|_| LoadFault::OutOfMemory)?;
-    Machine::load(alloc, x, file.as_slice(), &inputs)
 }
 
 /// The first quad of the stack pointer, and from 144 on the code that loads it, calls 160 and stops.

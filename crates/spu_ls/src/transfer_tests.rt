@@ -74,11 +74,7 @@ fn mail_of(alloc: Global, asked: &[Asks]) -> Result<Seq<u32>, OutOfMemory> {
 }
 
 /// The program with that mail, and these areas.
-fn driven(
-    alloc: Global,
-    asked: &[Asks],
-    rows: &[(u64, &[u8])],
-) -> Result<Machine, &'static str>
+fn driven(alloc: Global, asked: &[Asks], rows: &[(u64, &[u8])]) -> Result<Machine, &'static str>
     requires { length rows.now ≤ MAX_AREAS }
     ensures { IfOk result (λ m. (state_of m).steps ≡ 0) }
 {
@@ -88,8 +84,11 @@ fn driven(
 
 /// Area `a` of ones at 4,096, and area `b` of twos at 4,112.
 const ONES: [u8; 16] = [0x11; 16];
+
 const TWOS: [u8; 16] = [0x22; 16];
+
 const A: u64 = 4096;
+
 const B: u64 = 4112;
 
 /// Area `a` is got to 1,024 with tag 1, then area `b` with tag 2; the status of both by updates 0, 1 and 2.

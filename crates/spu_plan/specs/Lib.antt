@@ -1,1 +1,6 @@
 pub mod Plans
+pub mod Cuts
+pub mod Choices
+pub mod Cutting
+pub mod Choosing
+pub mod Laws

@@ -1,4 +1,3 @@
-pub mod FrontSteps
 pub mod LexemeSteps
 pub mod LineSteps
 pub mod NumberSteps

@@ -2,7 +2,6 @@
 use Rattle.std.proofs.Common.{◌≡◌, ℕ, suc, ◌+◌, ◌≤◌, ◌<◌, true, false, List, [], ◌∷◌, ◌++◌, length, take, drop, Result, Ok, Err, refl, sym, ap, ◌∙◌, arith, append_assoc, inl, inr}
 use Rattle.std.specs.Prelude.{◌==◌, not}
 use Rattle.std.proofs.lemmas.Bool.{cases_Bool}
-use Rattle.std.proofs.lemmas.List.{take_all}
 use Rattle.spu_text.specs.declared.lexemes.Token.{Token}
 use Rattle.spu_text.specs.declared.lexemes.TextFault.{TextFault}
 use Rattle.spu_text.specs.declared.lexemes.TextFault.TheVariants.{NotAscii, LineTooLong, BadNumber, OutOfMemory}
@@ -38,34 +37,18 @@ add_rest front front2 (Ok ts) rest e = fronts front ts rest ∙ ap (λ (x : List
 add_rest front front2 (Err f) rest e = absurd cc
 
 -- one line more, of those that are read
-pub lines_step : (number start m k : ℕ) (s l rest : List ℕ) (front front2 : List Token) (v : Result (List Token) TextFault) → m ≡ suc k → with_front front (lines_read number start (take m (lines_of s))) ≡ v → 0 < length s → l ≡ take (line_len s) s → rest ≡ drop (line_len s) s → with_front front (line_read number start l) ≡ Ok front2 →
-    with_front front2 (lines_read (number + 1) (start + length l) (take k (lines_of rest))) ≡ v
-lines_step number start m k s l rest front front2 v more e h is after now =
+pub lines_step : (number start : ℕ) (s l rest : List ℕ) (front front2 : List Token) (v : Result (List Token) TextFault) → with_front front (lines_read number start (lines_of s)) ≡ v → 0 < length s → l ≡ take (line_len s) s → rest ≡ drop (line_len s) s → with_front front (line_read number start l) ≡ Ok front2 →
+    with_front front2 (lines_read (number + 1) (start + length l) (lines_of rest)) ≡ v
+lines_step number start s l rest front front2 v e h is after now =
     let split : lines_of s ≡ l ∷ lines_of rest = rw (is, after) (lines_first s h) in
-    let all = rw (more, split) at e in
-    sym (add_rest front front2 (line_read number start l) (lines_read (number + 1) (start + length l) (take k (lines_of rest))) now) ∙ all
+    let all = rw split at e in
+    sym (add_rest front front2 (line_read number start l) (lines_read (number + 1) (start + length l) (lines_of rest)) now) ∙ all
 
 -- a line with a fault
-pub lines_fault : (number start m k : ℕ) (s l : List ℕ) (front : List Token) (f : TextFault) (v : Result (List Token) TextFault) → m ≡ suc k → with_front front (lines_read number start (take m (lines_of s))) ≡ v → 0 < length s → l ≡ take (line_len s) s → line_read number start l ≡ Err f → v ≡ Err f
-lines_fault number start m k s l front f v more e h is fault =
+pub lines_fault : (number start : ℕ) (s l : List ℕ) (front : List Token) (f : TextFault) (v : Result (List Token) TextFault) → with_front front (lines_read number start (lines_of s)) ≡ v → 0 < length s → l ≡ take (line_len s) s → line_read number start l ≡ Err f → v ≡ Err f
+lines_fault number start s l front f v e h is fault =
     let split : lines_of s ≡ l ∷ lines_of (drop (line_len s) s) = rw is (lines_first s h) in
-    let all = rw (more, split, fault) at e in sym all
-
--- a text has no more lines than bytes
-onto_few : (b n : ℕ) (ls : List (List ℕ)) → length ls ≤ n → length (onto b ls) ≤ suc n
-onto_few b n [] h = omega arith
-onto_few b n (l ∷ ls) h = omega (arith, h)
-
-few_lines : (s : List ℕ) → length (lines_of s) ≤ length s
-few_lines [] = omega arith
-few_lines (b ∷ bs) = elim (cases_Bool (b == 10)) [
-  | inl is ↦ rw is (omega (arith, few_lines bs))
-  | inr not ↦ rw not (onto_few b (length bs) (lines_of bs) (few_lines bs))
-]
-
--- that many lines are all
-pub all_lines : (n : ℕ) (s : List ℕ) → length s ≤ n → take n (lines_of s) ≡ lines_of s
-all_lines n s h = take_all n (lines_of s) (omega (arith, few_lines s, h))
+    let all = rw (split, fault) at e in sym all
 
 -- what a function gave where the one that it called gave a fault
 pub gives_fault : (r : Result (List Token) TextFault) (f : TextFault) (now v : Result (List Token) TextFault) → r ≡ Err f → Fails f now → ((g : TextFault) → now ≡ Err g → v ≡ Err g) → Gives r v

@@ -3,7 +3,7 @@ use Rattle.std.proofs.Common.{◌≡◌, ℕ, zero, suc, ◌+◌, ◌-◌, ◌<�
 use Rattle.std.specs.Prelude.{◌==◌, ◌&&◌, not, nat_lt, if◌then◌else◌, slice_index, option_map}
 use Rattle.std.specs.List.{list_all, prefix_len}
 use Rattle.std.proofs.lemmas.Bool.{cases_Bool, and_parts, eqb-true}
-use Rattle.std.proofs.lemmas.List.{length-append, length-take, append-nil, take_at, drop_at, take_all, drop_all, take-append-drop, take-append-le, drop-append-le, drop_more}
+use Rattle.std.proofs.lemmas.List.{length-append, length-take, length-drop, append-nil, take_at, drop_at, take_all, drop_all, take-append-drop, take-append-le, drop-append-le, drop_more}
 use Rattle.std.proofs.Math.ListN.{get_or-append}
 use Rattle.std.proofs.lemmas.Bool.Decides.{nat_tests}
 use Rattle.std.proofs.lemmas.List.Sums.{prefix_len-le-length}
@@ -13,8 +13,6 @@ use Rattle.spu_text.specs.declared.lexemes.TokenKind.{TokenKind}
 use Rattle.spu_text.specs.declared.lexemes.TokenKind.TheVariants as kinds
 use Rattle.spu_text.specs.declared.lexemes.TextFault.{TextFault}
 use Rattle.spu_text.specs.Texts.{text_read, lines_of, lines_read, line_read, line_len, content, scan, placed, piece_of, mark_or_quoted, closing, is_word_byte, is_space, is_source_byte, is_no_newline, with_front, token, ◌>>=◌}
-use Rattle.spu_text.specs.Reads.{Gives}
-use Rattle.spu_text.specs.Fronts.{IsFront, line_of}
 use Rattle.spu_text.specs.Order.{is_gap, AreInOrder}
 use Rattle.spu_text.proofs.LineSteps.{line_len_more, line_len_now, lines_first}
 
@@ -66,12 +64,12 @@ pub record Begins (comment : Bool) (bytes : List ℕ) (at : ℕ) (t : Token) : T
   pub end : t.end ≡ t.start + length slice
 
 abbrev pub Chain : Bool → List ℕ → ℕ → List Token → Type 0
-Chain comment bytes at [] = Unit {0}
+Chain comment bytes at [] = is_gap comment bytes ≡ true
 Chain comment bytes at (t ∷ ts) = (begins : Begins comment bytes at t) × Chain false begins.left t.end ts
 
 -- a byte in front of the gap
 before : (c d : Bool) (b : ℕ) (bytes : List ℕ) (at : ℕ) (ts : List Token) → ((gap : List ℕ) → is_gap d gap ≡ true → is_gap c (b ∷ gap) ≡ true) → Chain d bytes (at + 1) ts → Chain c (b ∷ bytes) at ts
-before c d b bytes at [] step chain = tt
+before c d b bytes at [] step chain = step bytes chain
 before c d b bytes at (t ∷ ts) step (begins, rest) =
     let begin_at = begins.start in
     (record { gap = b ∷ begins.gap; slice = begins.slice; left = begins.left; parts = ap (λ (z : List ℕ). b ∷ z) begins.parts; blank = step begins.gap begins.blank; start = omega (arith, begin_at); end = begins.end }, rest)
@@ -81,7 +79,7 @@ chain_at c bytes at there ts e chain = subst (λ n. Chain c bytes n ts) e chain
 
 -- no bytes
 chain_none : (c : Bool) (at : ℕ) (ts : List Token) → Chain false [] at ts → Chain c [] at ts
-chain_none c at [] chain = tt
+chain_none c at [] chain = refl
 chain_none c at (t ∷ ts) (begins, rest) =
     let empty : begins.gap ≡ [] = no_gap begins.gap (begins.slice ++ begins.left) begins.parts in
     (record { gap = begins.gap; slice = begins.slice; left = begins.left; parts = begins.parts; blank = ap (is_gap c) empty; start = begins.start; end = begins.end }, rest)
@@ -397,11 +395,14 @@ both : (first rest : Result (List Token) TextFault) (ts : List Token) → (first
 both (Err f) rest ts e = absurd cc
 both (Ok xs) rest ts e = let ok = front_ok xs ts rest e in record { front = xs; back = ok.0; first_is = refl; rest_is = ok.1; all = ok.2 }
 
-lines_chain : (k line at : ℕ) (s : List ℕ) (ts : List Token) → lines_read line at (take k (lines_of s)) ≡ Ok ts → Chain false s at ts
-lines_chain zero line at s ts e = subst (Chain false s at) (ok_same [] ts _ refl e) tt
-lines_chain (suc k) line at [] ts e = subst (Chain false [] at) (ok_same [] ts _ refl e) tt
-lines_chain (suc k) line at (b ∷ bs) ts e =
-    by_parts (both (line_read line at now) (lines_read (line + 1) (at + length now) (take k (lines_of rest))) ts (rw (lines_first s (omega arith)) at e)) (λ xs x. lines_chain k (line + 1) (at + length now) rest xs x)
+some_line : (b : ℕ) (bs : List ℕ) → 0 < line_len (b ∷ bs)
+some_line b bs = omega arith
+
+lines_chain : (k line at : ℕ) (s : List ℕ) (ts : List Token) → length s ≤ k → lines_read line at (lines_of s) ≡ Ok ts → Chain false s at ts
+lines_chain k line at [] ts le e = subst (Chain false [] at) (ok_same [] ts _ refl e) refl
+lines_chain zero line at (b ∷ bs) ts le e = absurd (omega (arith, le))
+lines_chain (suc k) line at (b ∷ bs) ts le e =
+    by_parts (both (line_read line at now) (lines_read (line + 1) (at + length now) (lines_of rest)) ts (rw (lines_first s (omega arith)) at e)) (λ xs x. lines_chain k (line + 1) (at + length now) rest xs fewer x)
   where
     s : List ℕ
     s = b ∷ bs
@@ -412,7 +413,13 @@ lines_chain (suc k) line at (b ∷ bs) ts e =
     rest : List ℕ
     rest = drop (line_len (b ∷ bs)) (b ∷ bs)
 
-    by_parts : Both (line_read line at now) (lines_read (line + 1) (at + length now) (take k (lines_of rest))) ts → ((xs : List Token) → lines_read (line + 1) (at + length now) (take k (lines_of rest)) ≡ Ok xs → Chain false rest (at + length now) xs) → Chain false s at ts
+    fewer : length rest ≤ k
+    fewer =
+        let long = length-drop (line_len (b ∷ bs)) (b ∷ bs) in
+        let some = some_line b bs in
+        omega (arith, long, some, le)
+
+    by_parts : Both (line_read line at now) (lines_read (line + 1) (at + length now) (lines_of rest)) ts → ((xs : List Token) → lines_read (line + 1) (at + length now) (lines_of rest) ≡ Ok xs → Chain false rest (at + length now) xs) → Chain false s at ts
     by_parts p more =
         let l = first_line (b ∷ bs) in
         subst (λ (z : List Token). Chain false s at z) (sym p.all)
@@ -422,7 +429,7 @@ lines_chain (suc k) line at (b ∷ bs) ts e =
 -- ---- the text
 
 chain_order : (front bytes text : List ℕ) (at : ℕ) (ts : List Token) → text ≡ front ++ bytes → length front ≡ at → Chain false bytes at ts → AreInOrder text at ts
-chain_order front bytes text at [] is long chain = tt
+chain_order front bytes text at [] is long chain = ap (is_gap false) (ap (drop at) is ∙ drop_at front bytes at long) ∙ chain
 chain_order front bytes text at (t ∷ ts) is long (begins, rest) = (
   record {
     behind = omega (arith, start);
@@ -463,16 +470,5 @@ chain_order front bytes text at (t ∷ ts) is long (begins, rest) = (
     further : text ≡ (front ++ (begins.gap ++ begins.slice)) ++ begins.left
     further = is ∙ ap (λ (z : List ℕ). front ++ z) (begins.parts ∙ sym (append_assoc begins.gap begins.slice begins.left)) ∙ sym (append_assoc front (begins.gap ++ begins.slice) begins.left)
 
-pub lines_order : (k : ℕ) (text : List ℕ) (ts : List Token) → lines_read 1 0 (take k (lines_of text)) ≡ Ok ts → AreInOrder text 0 ts
-lines_order k text ts e = chain_order [] text text 0 ts refl refl (lines_chain k 1 0 text ts e)
-
 pub text_order : (text : List ℕ) (ts : List Token) → text_read text ≡ Ok ts → AreInOrder text 0 ts
-text_order text ts e = lines_order (length (lines_of text)) text ts (ap (lines_read 1 0) (take_all (length (lines_of text)) (lines_of text) (omega arith)) ∙ e)
-
-pub gives_order : (text : List ℕ) (r : Result (List Token) TextFault) → Gives r (text_read text) → IfOk r (AreInOrder text 0)
-gives_order text (Ok ts) e = text_order text ts e
-gives_order text (Err f) e = tt
-
-pub front_order : (text : List ℕ) (ts : List Token) (fault : Option TextFault) → IsFront text ts fault → AreInOrder text 0 ts
-front_order text ts None e = text_order text ts e
-front_order text ts (Some f) e = lines_order (line_of f - 1) text ts e.1
+text_order text ts e = chain_order [] text text 0 ts refl refl (lines_chain (length text) 1 0 text ts (omega arith) e)

@@ -1,5 +1,5 @@
--- Where tokens stand in their text: slices one behind the other, and between them blanks, ends of lines
--- and comments alone. A comment goes from a `#` to the end of its line (GNU as for SPU).
+-- Where tokens stand in their text: slices one behind the other, and before, between and behind them blanks,
+-- ends of lines and comments alone. A comment goes from a `#` to the end of its line (GNU as for SPU).
 use Rattle.std.specs.Prelude.{◌≡◌, ℕ, ◌-◌, ◌≤◌, ◌==◌, ◌&&◌, ◌||◌, Bool, true, false, if◌then◌else◌, List, [], ◌∷◌, length, take, drop}
 use Rattle.spu_text.specs.declared.lexemes.Token.{Token}
 use Rattle.spu_text.specs.Texts.{is_space}
@@ -19,7 +19,7 @@ pub record IsNext (text : List ℕ) (at : ℕ) (t : Token) : Type 0 where
   pub within : t.end ≤ length text
   pub gap : is_gap false (take (t.start - at) (drop at text)) ≡ true
 
--- the tokens from an offset on, each at the end of the one before or behind it
+-- the tokens from an offset on, each at the end of the one before or behind it, and a gap behind the last
 abbrev pub AreInOrder : List ℕ → ℕ → List Token → Type 0
-AreInOrder text at [] = Unit {0}
+AreInOrder text at [] = is_gap false (drop at text) ≡ true
 AreInOrder text at (t ∷ ts) = IsNext text at t × AreInOrder text t.end ts

@@ -49,19 +49,3 @@ impl From<OutOfMemory> for TextFault {
         TextFault::OutOfMemory
     }
 }
-
-impl TextFault {
-    ghost use Rattle.spu_text.specs.Fronts.{line_of};
-
-    /// The faulty line, from 1; 0 where memory ran out.
-    pub fn line(self) -> u32
-        ensures { result ≡ line_of self }
-    {
-        match self {
-            TextFault::NotAscii(line) => line,
-            TextFault::LineTooLong(line) => line,
-            TextFault::BadNumber(line) => line,
-            TextFault::OutOfMemory => 0,
-        }
-    }
-}

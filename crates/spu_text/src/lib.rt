@@ -11,4 +11,4 @@ mod tests;
 
 pub use lexemes::{TextFault, Token, TokenKind};
 pub use line::{Piece, first_line, read_line};
-pub use lines::{Front, front_tokens, line_count, tokens};
+pub use lines::{line_count, tokens};

@@ -1,18 +1,16 @@
 //! The tokens of a text, line by line.
 
-ghost use Rattle.std.specs.Prelude.{◌≡◌, ◌+◌, ◌==◌, ◌&&◌, not, nat_le, ◌<◌, ◌≤◌, ◌^◌, length, take, IfOk, Ok, Err};
+ghost use Rattle.std.specs.Prelude.{◌≡◌, ◌+◌, ◌<◌, ◌≤◌, ◌^◌, length, IfOk};
 ghost use Rattle.std.specs.List.{prefix_len, list_all};
 ghost use Rattle.spu_word.specs.declared.limits.TheConstants.{MAX_FILE_SIZE};
-ghost use Rattle.spu_text.specs.Texts.{is_no_newline, is_source_byte, line_len, content, line_read, lines_of, lines_read, text_read};
+ghost use Rattle.spu_text.specs.Texts.{is_no_newline, is_source_byte, line_len, content, line_read, lines_of, text_read};
 ghost use Rattle.spu_text.specs.Reads.{Gives, Adds};
 ghost use Rattle.spu_text.specs.Order.{AreInOrder};
-ghost use Rattle.spu_text.specs.Fronts.{IsFront, read_before};
-ghost use Rattle.spu_text.specs.declared.lexemes.TextFault.TheVariants as faults;
 
 use crate::lexemes::{TextFault, Token};
 use crate::scanning::scan;
+use spu_word::Seq;
 use spu_word::limits::MAX_LINE_SIZE;
-use spu_word::{OutOfMemory, Seq};
 use std::alloc::Global;
 
 #[tactic(auto, unfolding(crate::specs::Texts::is_source_byte))]
@@ -94,23 +92,18 @@ pub fn line_count(text: &[u8]) -> u32
     count
 }
 
-/// Whether there is a line more among the first `count`, where the next has this number.
-fn has_line(rest: &[u8], number: u32, count: u32) -> bool
-    ensures { result ≡ (not (length rest.now == 0) && nat_le number count) }
-{
-    !rest.is_empty() && number <= count
-}
-
-/// The tokens of the first `count` lines of a text, in order.
-fn tokens_of_lines(alloc: Global, text: &[u8], count: u32) -> Result<Seq<Token>, TextFault>
+/// The tokens of a text, in order: slices of it, with blanks, ends of lines and comments alone between
+/// them and behind the last. The text has at most `MAX_FILE_SIZE` bytes.
+pub fn tokens(alloc: Global, text: &[u8]) -> Result<Seq<Token>, TextFault>
     requires { length text.now ≤ MAX_FILE_SIZE }
-    ensures { Gives result (lines_read 1 0 (take count (lines_of text.now))) }
+    ensures tokens { Gives result (text_read text.now) }
+    ensures order { IfOk result (AreInOrder text.now 0) }
 {
     let mut all = Seq::new(alloc);
     let mut rest = text;
     let mut start = 0;
     let mut number = 1;
-    while has_line(rest, number, count) {
+    while !rest.is_empty() {
         let (line, after) = rest.split_at(line_len(rest));
         read_line(&mut all, line, start, number)?;
         start += line.len();
@@ -118,61 +111,4 @@ fn tokens_of_lines(alloc: Global, text: &[u8], count: u32) -> Result<Seq<Token>,
         rest = after;
     }
     Ok(all)
-}
-
-/// The tokens of a text, in order: slices of it, with blanks, ends of lines and comments alone between
-/// them. The text has at most `MAX_FILE_SIZE` bytes.
-pub fn tokens(alloc: Global, text: &[u8]) -> Result<Seq<Token>, TextFault>
-    requires { length text.now ≤ MAX_FILE_SIZE }
-    ensures tokens { Gives result (text_read text.now) }
-    ensures order { IfOk result (AreInOrder text.now 0) }
-{
-    tokens_of_lines(alloc, text, u32::MAX)
-}
-
-/// The tokens of a text up to its first line that has none, and why that line has none.
-#[derive(Drop)]
-pub struct Front {
-    pub tokens: Seq<Token>,
-    /// Never want of memory; None where each line has tokens.
-    pub fault: Option<TextFault>,
-}
-
-/// The only fault that lines with tokens have.
-fn want_of_memory(fault: TextFault) -> OutOfMemory
-    requires { fault ≡ faults.OutOfMemory }
-{
-    OutOfMemory
-}
-
-/// The tokens of the lines before the one that is faulty.
-fn tokens_before(alloc: Global, text: &[u8], fault: TextFault) -> Result<Seq<Token>, OutOfMemory>
-    requires short { length text.now ≤ MAX_FILE_SIZE }
-    requires fault { text_read text.now ≡ Err fault }
-    ensures { IfOk result (λ ts. read_before text.now fault ≡ Ok ts) }
-{
-    match tokens_of_lines(alloc, text, fault.line() - 1) {
-        Ok(tokens) => Ok(tokens),
-        Err(other) => Err(want_of_memory(other)),
-    }
-}
-
-/// The tokens of a text up to its first line that has none, and why that line has none. They stand in
-/// order as those of `tokens` do. The text has at most `MAX_FILE_SIZE` bytes.
-pub fn front_tokens(alloc: Global, text: &[u8]) -> Result<Front, OutOfMemory>
-    requires { length text.now ≤ MAX_FILE_SIZE }
-    ensures front { IfOk result (λ f. IsFront text.now f.tokens f.fault) }
-    ensures order { IfOk result (λ f. AreInOrder text.now 0 f.tokens) }
-{
-    match tokens(alloc, text) {
-        Ok(tokens) => Ok(Front {
-            tokens,
-            fault: None,
-        }),
-        Err(TextFault::OutOfMemory) => Err(OutOfMemory),
-        Err(fault) => Ok(Front {
-            tokens: tokens_before(alloc, text, fault)?,
-            fault: Some(fault),
-        }),
-    }
 }

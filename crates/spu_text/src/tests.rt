@@ -1,7 +1,7 @@
 ghost use Rattle.std.specs.Prelude.{◌≤◌, length};
 ghost use Rattle.spu_word.specs.declared.limits.TheConstants.{MAX_FILE_SIZE};
 
-use crate::{TextFault, Token, TokenKind, front_tokens, tokens};
+use crate::{TextFault, Token, TokenKind, tokens};
 use std::alloc::Global;
 use std::test::Fail;
 
@@ -47,21 +47,5 @@ fn faults(rt: HostRuntime) -> Result<(), Fail> {
     assert_eq!(rt; fault(alloc, b"0x\n\x80"), Some(TextFault::BadNumber(1)));
     assert_eq!(rt; fault(alloc, b"0x \x80"), Some(TextFault::NotAscii(1)));
     assert_eq!(rt; fault(alloc, &[b' '; 513]), Some(TextFault::LineTooLong(1)));
-    Ok(())
-}
-
-#[test]
-fn tokens_before_a_faulty_line(rt: HostRuntime) -> Result<(), Fail> {
-    let front = front_tokens(rt.alloc(), b"a\n1\n12x b\nc")
-        .ok()
-        .ok_or("memory")?;
-    let expected = [
-        token(TokenKind::Word, 0, 1, 1),
-        token(TokenKind::EndOfStatement, 1, 1, 1),
-        token(TokenKind::Number(1), 2, 3, 2),
-        token(TokenKind::EndOfStatement, 3, 3, 2),
-    ];
-    assert_eq!(rt; front.tokens.as_slice(), expected.as_slice());
-    assert_eq!(rt; front.fault, Some(TextFault::BadNumber(3)));
     Ok(())
 }

@@ -1,3 +1,4 @@
+pub mod Alike
 pub mod FileLists
 pub mod Growing
 pub mod Links

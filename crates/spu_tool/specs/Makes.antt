@@ -1,5 +1,5 @@
 -- What a command makes of the bytes of its files: a status, an output file where it has one, and a text.
-use Rattle.std.specs.Prelude.{◌≡◌, ℕ, ◌+◌, ◌-◌, ◌^◌, ◌<◌, ◌≤◌, ◌/◌, ◌%◌, ◌++◌, ◌∷◌, [], ◌⊎◌, Bool, true, false, nat_lt, ◌==◌, if◌then◌else◌, List, length, take, drop, slice_index_or, Option, Some, None, codes}
+use Rattle.std.specs.Prelude.{◌≡◌, ℕ, ◌+◌, ◌-◌, ◌^◌, ◌<◌, ◌≤◌, ◌/◌, ◌%◌, ◌++◌, ◌∷◌, [], ◌⊎◌, ◌↔◌, Bool, true, false, nat_lt, ◌==◌, if◌then◌else◌, List, length, take, drop, slice_index_or, Option, Some, None, codes}
 use Rattle.std.specs.List.{flat_map}
 use Rattle.std.specs.Fmt.{decimal}
 use Rattle.std.specs.Str.{bytes_eq}
@@ -237,6 +237,12 @@ pub record EmbedsNot (handle bytes : List ℕ) (m : Made) : Type 0 where
 
 abbrev pub MakesEmbed : List ℕ → List ℕ → List ℕ → Made → Type 0
 MakesEmbed handle name bytes m = EmbedsTo handle bytes m ⊎ (EmbedsNot handle bytes m ⊎ ReadsNot (exec_fault bytes) name m)
+
+-- a run makes the same of an executable and of an object that embeds it
+abbrev pub AreRunAlike : Type 0
+AreRunAlike =
+    (handle file e : List ℕ) → Embeds handle file e → (options : RunOptions) (name : List ℕ) (files : List (List ℕ)) (m : Made)
+    → MakesRunOf options name e files m ↔ MakesRunOf options name file files m
 
 -- ---- by the action: the names of its files, and their bytes
 

@@ -439,7 +439,7 @@ mod tests {
     fn areas_of(request: &Request<'_>) -> Option<usize> {
         match &request.action {
             Action::Run(options) => Some(options.places.len()),
-            Action::Assemble | Action::Link => None,
+            Action::Assemble | Action::Link | Action::Embed(_) => None,
         }
     }
 

@@ -17,7 +17,7 @@ use crate::run_command::run_command;
 use crate::status::Status;
 use crate::texts::count_line;
 use spu_cesof::{CesofFault, embed, unpack};
-use spu_elf::constants::E_MACHINE;
+use spu_elf::constants::{E_MACHINE, EM_PPC};
 use spu_elf::spelling::part;
 use spu_elf::{ElfFault, Exec, read_exec};
 use spu_word::{Bytes, OutOfMemory, Seq};
@@ -74,7 +74,7 @@ pub fn embed_command(
 fn is_embedded(bytes: &[u8]) -> bool
     ensures { result ≡ is_embedded bytes.now }
 {
-    part(bytes, E_MACHINE, 2) == [0, 20].as_slice()
+    part(bytes, E_MACHINE, 2) == [0, EM_PPC as u8].as_slice()
 }
 
 /// What is made of an object that embeds an executable: what is made of the executable.

@@ -9,6 +9,7 @@ mod concluding;
 mod cutting;
 mod embed_command;
 mod fault_lines;
+mod laws;
 mod link_command;
 mod lists;
 mod made;

@@ -9,40 +9,59 @@ use std::test::Fail;
 
 /// What the code of an executable begins with, from 128 on: the first quad of the stack pointer, and from 144 on the code that loads
 /// it, calls 160 and stops.
-const START: [u32; 8] = [0x0003_ffe0, 0x0000_4000, 0, 0, 0x33ff_fe01, 0x3300_0180, 0x0000_2000, 0];
+const START: &str = "0003ffe000004000000000000000000033fffe01330001800000200000000000";
 
 /// A quadword of the bytes 0 to 15.
 const COUNTED: [u8; 16] = [0, 1, 2, 3, 4, 5, 6, 7, 8, 9, 10, 11, 12, 13, 14, 15];
 
 /// The quadword at 240 is put into area `buf`, whose address is in the quadword at 256, and its status read.
-const PUTS: [u32; 18] = [0x4200_7804, 0x21a0_0804, 0x3080_2005, 0x21a0_0885, 0x3f81_0286, 0x21a0_0906, 0x4080_0807, 0x21a0_0987, 0x4080_0008, 0x21a0_0a08, 0x4080_1009, 0x21a0_0a89, 0x40ff_ff8a, 0x21a0_0b0a, 0x4080_010a, 0x21a0_0b8a, 0x01a0_0c0b, 0x3500_0000];
+const PUTS: &str = "\
+    4200780421a008043080200521a008853f81028621a009064080080721a009874080000821a00a084080100921a00a89\
+    40ffff8a21a00b0a4080010a21a00b8a01a00c0b35000000";
 
 /// It is put, and no status read.
-const PUTS_LATE: [u32; 13] = [0x4200_7804, 0x21a0_0804, 0x3080_2005, 0x21a0_0885, 0x3f81_0286, 0x21a0_0906, 0x4080_0807, 0x21a0_0987, 0x4080_0008, 0x21a0_0a08, 0x4080_1009, 0x21a0_0a89, 0x3500_0000];
+const PUTS_LATE: &str = "\
+    4200780421a008043080200521a008853f81028621a009064080080721a009874080000821a00a084080100921a00a89\
+    35000000";
 
 /// 16,384 bytes are got from 4,096 to 240, and their first word is sent.
-const GETS: [u32; 19] = [0x4080_7804, 0x21a0_0804, 0x4080_0005, 0x21a0_0885, 0x4088_0006, 0x21a0_0906, 0x40a0_0007, 0x21a0_0987, 0x21a0_0a05, 0x4080_2009, 0x21a0_0a89, 0x40ff_ff8a, 0x21a0_0b0a, 0x4080_010a, 0x21a0_0b8a, 0x01a0_0c0b, 0x3080_1e03, 0x21a0_0e03, 0x3500_0000];
+const GETS: &str = "\
+    4080780421a008044080000521a008854088000621a0090640a0000721a0098721a00a054080200921a00a8940ffff8a\
+    21a00b0a4080010a21a00b8a01a00c0b30801e0321a00e0335000000";
 
 /// 16,400 bytes are.
-const GETS_MORE: [u32; 12] = [0x4080_7804, 0x21a0_0804, 0x4080_0005, 0x21a0_0885, 0x4088_0006, 0x21a0_0906, 0x40a0_0807, 0x21a0_0987, 0x21a0_0a05, 0x4080_2009, 0x21a0_0a89, 0x3500_0000];
+const GETS_MORE: &str = "\
+    4080780421a008044080000521a008854088000621a0090640a0080721a0098721a00a054080200921a00a8935000000";
 
 /// The words 0 and 1 of the quadword at 240 are sent.
-const SHOWS: [u32; 5] = [0x3080_1e03, 0x21a0_0e03, 0x3f81_0183, 0x21a0_0e03, 0x3500_0000];
+const SHOWS: &str = "30801e0321a00e033f81018321a00e0335000000";
 
-/// An executable of code at 160 and, from 240 on, this quadword and so many zeros, with one symbol.
+/// The symbol of a quadword.
+fn symbol(alloc: Global, name: &[u8], value: u32) -> Result<Symbol, OutOfMemory> {
+    Ok(Symbol {
+        name: Seq::copied(alloc, name)?,
+        value,
+        size: 16,
+        kind: SymKind::Object,
+        global: true,
+        place: SymPlace::Inside(0),
+    })
+}
+
+/// The bytes of a text of hexadecimal digits.
+fn bytes_of(alloc: Global, digits: &str) -> Result<Bytes, &'static str> {
+    let bytes = hex::decode(alloc, digits).ok().ok_or("digits")?;
+    Seq::copied(alloc, bytes.as_slice()).ok().ok_or("memory")
+}
+
+/// An executable of this code and, from 240 on, a quadword and so many zeros, with these symbols.
 fn executable(
     alloc: Global,
-    code: &[u32],
+    code: &[u8],
     zeros: usize,
-    (name, value): (&[u8], u32),
+    named: &[(&[u8], u32)],
 ) -> Result<Exec, OutOfMemory> {
-    let mut bytes = Seq::new(alloc);
-    for word in START {
-        bytes.extend(&word.to_be_bytes())?;
-    }
-    for word in code {
-        bytes.extend(&word.to_be_bytes())?;
-    }
+    let mut bytes = Seq::copied(alloc, code)?;
     if bytes.len() < 112 {
         bytes.extend_zeros(112 - bytes.len())?;
     }
@@ -55,14 +74,9 @@ fn executable(
         bytes,
     })?;
     let mut symbols = Seq::new(alloc);
-    symbols.push(Symbol {
-        name: Seq::copied(alloc, name)?,
-        value,
-        size: 16,
-        kind: SymKind::Object,
-        global: true,
-        place: SymPlace::Inside(0),
-    })?;
+    for (name, value) in named {
+        symbols.push(symbol(alloc, name, *value)?)?;
+    }
     Ok(Exec {
         entry: 144,
         segments,
@@ -70,14 +84,19 @@ fn executable(
     })
 }
 
-/// Its file.
+/// The file of the executable whose code at 160 has these digits.
 fn file_of(
     alloc: Global,
-    code: &[u32],
+    digits: &str,
     zeros: usize,
-    symbol: (&[u8], u32),
+    named: &[(&[u8], u32)],
 ) -> Result<Bytes, &'static str> {
-    let exec = executable(alloc, code, zeros, symbol).ok().ok_or("memory")?;
+    let mut code = bytes_of(alloc, START)?;
+    let rest = bytes_of(alloc, digits)?;
+    code.extend(rest.as_slice()).ok().ok_or("memory")?;
+    let exec = executable(alloc, code.as_slice(), zeros, named)
+        .ok()
+        .ok_or("memory")?;
     if !exec.valid() {
         return Err("not valid");
     }
@@ -88,10 +107,10 @@ fn file_of(
 fn areas_and_the_image(rt: HostRuntime) -> Result<(), Fail> {
     let alloc = rt.alloc();
     let mut outside = Outside::new(alloc, None, None)?;
-    let entry = (b"_EAR_buf".as_slice(), 256);
-    let puts = file_of(alloc, &PUTS, 16, entry)?;
-    let late = file_of(alloc, &PUTS_LATE, 16, entry)?;
-    let shows = file_of(alloc, &SHOWS, 0, (b"__image_ea", 240))?;
+    let entry: [(&[u8], u32); 1] = [(b"_EAR_buf", 256)];
+    let puts = file_of(alloc, PUTS, 16, &entry)?;
+    let late = file_of(alloc, PUTS_LATE, 16, &entry)?;
+    let shows = file_of(alloc, SHOWS, 0, &[(b"__image_ea", 240)])?;
     outside.files.hold("puts", puts.as_slice())?;
     outside.files.hold("late", late.as_slice())?;
     outside.files.hold("shows", shows.as_slice())?;
@@ -132,26 +151,63 @@ M2 AreasOverlap b
 
 #[test]
 fn ends(rt: HostRuntime) -> Result<(), Fail> {
-    let rows: [(&[u32], Status, &str); 3] = [
-        (
-            &[0x4020_0000, 0x7f00_0180],
-            Status::Ended,
-            "halt 164\nsteps 4\n",
-        ),
-        (
-            &[0x5880_0000],
-            Status::Ended,
-            "bad-instruction 160\nsteps 3\n",
-        ),
-        (&[0x01a0_0e04], Status::Ended, "bad-channel 28\nsteps 3\n"),
+    let rows = [
+        ("402000007f000180", "halt 164\nsteps 4\n"),
+        ("58800000", "bad-instruction 160\nsteps 3\n"),
+        ("01a00e04", "bad-channel 28\nsteps 3\n"),
     ];
-    for (code, status, text) in rows {
+    for (code, text) in rows {
         let mut outside = Outside::new(rt.alloc(), None, None)?;
-        let file = file_of(rt.alloc(), code, 0, (b"d", 240))?;
+        let file = file_of(rt.alloc(), code, 0, &[(b"d", 240)])?;
         outside.files.hold("file", file.as_slice())?;
-        assert_eq!(rt; outside.call(rt.alloc(), "run file")?, status);
+        assert_eq!(rt; outside.call(rt.alloc(), "run file")?, Status::Ended);
         assert_eq!(rt; outside.out.as_slice(), text.as_bytes());
     }
+    Ok(())
+}
+
+#[test]
+fn embeds_and_runs(rt: HostRuntime) -> Result<(), Fail> {
+    let alloc = rt.alloc();
+    let mut outside = Outside::new(alloc, None, None)?;
+    let two = file_of(alloc, SHOWS, 16, &[(b"_EAR_a", 240), (b"_EAR_b", 256)])?;
+    outside.files.hold("two", two.as_slice())?;
+    outside.files.hold("zeros", &[0; 16])?;
+    outside.files.hold(
+        "twenty",
+        &[0, 0, 0, 0, 0, 0, 0, 0, 0, 0, 0, 0, 0, 0, 0, 0, 0, 0, 0, 20],
+    )?;
+    let calls = [
+        ("embed handle two two.o", Status::Ok),
+        ("run two.o --area=a:0x1000:zeros", Status::Refused),
+        (
+            "run two.o --area=a:0x1000:zeros --area=b:0:zeros",
+            Status::Ok,
+        ),
+        ("run two --area=a:0x1000:zeros --area=b:0:zeros", Status::Ok),
+        ("run twenty", Status::Refused),
+        ("embed handle two.o again.o", Status::Refused),
+        ("embed h\u{e9} two two.o", Status::Words),
+        ("embed handle two", Status::Words),
+        ("embed handle none two.o", Status::ReadFault),
+    ];
+    for (line, status) in calls {
+        assert_eq!(rt; outside.call(alloc, line)?, status, "at {line}");
+    }
+    let text = b"M1 UnresolvedName b
+out 0\nout 4096
+area a 00000000000000000000000000000000\narea b 00000000000000000000000000000000
+stop 0x2000\nsteps 8
+out 0\nout 4096
+area a 00000000000000000000000000000000\narea b 00000000000000000000000000000000
+stop 0x2000\nsteps 8
+C1 NotCesof 20
+E4 WrongMachine two.o 18
+words 2
+words 4
+";
+    assert_eq!(rt; outside.out.as_slice(), text.as_slice());
+    assert!(rt; outside.files.get("again.o").is_none());
     Ok(())
 }
 
@@ -168,21 +224,21 @@ fn sevens(alloc: Global) -> Result<Bytes, OutOfMemory> {
 
 #[test]
 fn long_texts(rt: HostRuntime) -> Result<(), Fail> {
-    let rows: [(&[u32], Status, &[u8], &[u8]); 3] = [
+    let rows: [(&str, Status, &[u8], &[u8]); 3] = [
         (
-            &GETS,
+            GETS,
             Status::Ok,
             b"out 462357\narea buf 00070e151c",
             b"stop 0x2000\nsteps 22\n",
         ),
         (
-            &GETS_MORE,
+            GETS_MORE,
             Status::Ended,
             b"area buf 00070e151c",
             b"transfer-fault\nsteps 13\n",
         ),
         (
-            &[0x21a0_0e03, 0x327f_ff80],
+            "21a00e03327fff80",
             Status::Ended,
             b"out 0\nout 0\n",
             b"outbox-full\nsteps 131075\n",
@@ -191,7 +247,7 @@ fn long_texts(rt: HostRuntime) -> Result<(), Fail> {
     let bytes = sevens(rt.alloc())?;
     for (code, status, head, tail) in rows {
         let mut outside = Outside::new(rt.alloc(), None, None)?;
-        let file = file_of(rt.alloc(), code, 16_384, (b"d", 240))?;
+        let file = file_of(rt.alloc(), code, 16_384, &[(b"d", 240)])?;
         outside.files.hold("file", file.as_slice())?;
         outside.files.hold("sevens", bytes.as_slice())?;
         let line = "run file --area=buf:4096:sevens";
@@ -202,44 +258,31 @@ fn long_texts(rt: HostRuntime) -> Result<(), Fail> {
     Ok(())
 }
 
-/// An overlay executable that an older version linked, as words: `main` calls `f`, which the loader gets from the file and which sends 5.
-const OLD: [u32; 222] = [
-    0x7f45_4c46, 0x0102_0100, 0, 0, 0x0002_0017, 1, 0x90, 0x34,
-    0x288, 0, 0x0034_0020, 0x0002_0028, 0x0006_0005, 1, 0x80, 0x80,
-    0x80, 0x180, 0x180, 7, 0x80, 1, 0x200, 0x200,
-    0x200, 0x10, 0x10, 0x0800_0005, 0x80, 0, 0, 0,
-    0x0003_ffe0, 0x4000, 0, 0, 0x33ff_fe01, 0x3300_0180, 0x2000, 0,
-    0x2400_4080, 0x24ff_8081, 0x1cf8_0081, 0x3300_0480, 0x1c08_0081, 0x3400_4080, 0x3500_0000, 0,
-    0x4200_004e, 0x0020_0000, 0x4200_504f, 0x3200_0280, 0x4200_00ce, 0x0020_0000, 0x4201_004f, 0x3200_0080,
-    0x4200_ffcc, 0x5813_004b, 0x2000_03cb, 0x3380_16cd, 0x3fbe_0000, 0x3fbf_26cd, 0x3380_174c, 0x0833_4000,
-    0x0833_0000, 0x2000_114e, 0x3380_134d, 0x7813_a6cc, 0x2100_0fcc, 0x32f8_004c, 0x1833_274c, 0x2380_10cc,
-    0x0f61_274c, 0x4200_e84d, 0x1813_664c, 0x3400_264d, 0x21a0_084d, 0x3f81_26cc, 0x21a0_09cc, 0x3f82_26cc,
-    0x3380_104b, 0x3f81_25cd, 0x1813_26ce, 0x1853_26cd, 0x1813_65cb, 0x21a0_08cb, 0x21a0_094e, 0x4080_0fcc,
-    0x21a0_0a4c, 0x4080_204c, 0x21a0_0acc, 0x01a0_064e, 0x4140_004c, 0x21a0_0b4c, 0x4080_014c, 0x21a0_0bcc,
-    0x01a0_0c4c, 0x21a0_0b4e, 0x0040_0000, 0x3500_2780, 0x3f81_004e, 0x3f82_004f, 0x327f_ed80, 0,
-    0, 0, 0, 0, 0x190, 0, 0, 0,
-    0, 0, 0, 0, 0, 0, 0, 0,
-    0x200, 0x10, 0x200, 1, 0, 0, 0, 0,
-    0x4080_0283, 0x21a0_0e03, 0x3500_0000, 0, 0, 0, 0, 0,
-    1, 0x1c0, 0x10, 0x1100_0001, 0xc, 0xa0, 0x1c, 0x1200_0001,
-    0x11, 0x200, 0xc, 0x1200_0002, 0x005f_5f69, 0x6d61_6765, 0x5f65_6100, 0x6d61_696e,
-    0x0066_0000, 0x2e72_6f6f, 0x7400_2e72, 0x3100_2e73, 0x796d_7461, 0x6200_2e73, 0x7472_7461, 0x6200_2e73,
-    0x6873_7472, 0x7461_6200, 0, 0, 0, 0, 0, 0,
-    0, 0, 0, 0, 1, 1, 7, 0x80,
-    0x80, 0x180, 0, 0, 0x80, 0, 7, 1,
-    6, 0x200, 0x200, 0x10, 0, 0, 0x80, 0,
-    0xb, 2, 0, 0, 0x210, 0x40, 4, 1,
-    4, 0x10, 0x13, 3, 0, 0, 0x250, 0x13,
-    0, 0, 1, 0, 0x1b, 3, 0, 0,
-    0x263, 0x25, 0, 0, 1, 0,
-];
+/// An overlay executable that an older version linked: `main` calls `f`, which the loader gets from the file and which sends 5.
+const OLD: &str = "\
+    7f454c460102010000000000000000000002001700000001000000900000003400000288000000000034002000020028\
+    000600050000000100000080000000800000008000000180000001800000000700000080000000010000020000000200\
+    00000200000000100000001008000005000000800000000000000000000000000003ffe0000040000000000000000000\
+    33fffe013300018000002000000000002400408024ff80811cf80081330004801c080081340040803500000000000000\
+    4200004e002000004200504f32000280420000ce002000004201004f320000804200ffcc5813004b200003cb338016cd\
+    3fbe00003fbf26cd3380174c08334000083300002000114e3380134d7813a6cc21000fcc32f8004c1833274c238010cc\
+    0f61274c4200e84d1813664c3400264d21a0084d3f8126cc21a009cc3f8226cc3380104b3f8125cd181326ce185326cd\
+    181365cb21a008cb21a0094e40800fcc21a00a4c4080204c21a00acc01a0064e4140004c21a00b4c4080014c21a00bcc\
+    01a00c4c21a00b4e00400000350027803f81004e3f82004f327fed800000000000000000000000000000000000000000\
+    000001900000000000000000000000000000000000000000000000000000000000000000000000000000000000000000\
+    00000200000000100000020000000001000000000000000000000000000000004080028321a00e033500000000000000\
+    0000000000000000000000000000000000000001000001c000000010110000010000000c000000a00000001c12000001\
+    00000011000002000000000c12000002005f5f696d6167655f6561006d61696e006600002e726f6f74002e7231002e73\
+    796d746162002e737472746162002e736873747274616200000000000000000000000000000000000000000000000000\
+    000000000000000000000000000000000000000100000001000000070000008000000080000001800000000000000000\
+    000000800000000000000007000000010000000600000200000002000000001000000000000000000000008000000000\
+    0000000b0000000200000000000000000000021000000040000000040000000100000004000000100000001300000003\
+    00000000000000000000025000000013000000000000000000000001000000000000001b000000030000000000000000\
+    000002630000002500000000000000000000000100000000";
 
 #[test]
 fn older_overlay_image(rt: HostRuntime) -> Result<(), Fail> {
-    let mut file = Seq::new(rt.alloc());
-    for word in OLD {
-        file.extend(&word.to_be_bytes())?;
-    }
+    let file = bytes_of(rt.alloc(), OLD)?;
     let mut outside = Outside::new(rt.alloc(), None, None)?;
     outside.files.hold("old", file.as_slice())?;
     assert_eq!(rt; outside.call(rt.alloc(), "run old")?, Status::Ok);

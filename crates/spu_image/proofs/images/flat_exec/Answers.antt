@@ -1,4 +1,3 @@
-use Rattle.std.proofs.Common.{arith, refl}
 use Rattle.spu_image.proofs.Laid.{inside, start_there}
 use Rattle.spu_image.proofs.images.flat_exec.Goals as goal
 

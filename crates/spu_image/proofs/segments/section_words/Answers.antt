@@ -1,4 +1,4 @@
-use Rattle.std.proofs.Common.{◌≡◌, ◌≢◌, ℕ, arith, sym, ap, ◌∙◌, refl, length}
+use Rattle.std.proofs.Common.{◌≡◌, arith, sym, ap, ◌∙◌, refl, length}
 use Rattle.std.specs.Prelude.{max}
 use Rattle.spu_layout.specs.Views.{layout_in}
 use Rattle.spu_image.specs.Filling.{empty_sections}

@@ -1,6 +1,6 @@
-use Rattle.std.proofs.Common.{subst, arith}
+use Rattle.std.proofs.Common.{subst}
 use Rattle.spu_lift.specs.WellFormed.{IsOperand}
-use Rattle.spu_image.proofs.Laid.{label_known, label_inside, inside, callee_inside, callee_known}
+use Rattle.spu_image.proofs.Laid.{label_known, label_inside, inside, callee_inside}
 use Rattle.spu_image.proofs.words.operand_value.Goals as goal
 
 pub code-requires-clause-known : goal.code-requires-clause-known

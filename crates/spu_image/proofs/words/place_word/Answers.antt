@@ -1,5 +1,5 @@
 use Rattle.spu_ideal.proofs.Lifted.{function_within}
-use Rattle.spu_image.proofs.Laid.{inside, known, operand_fits, word_by}
+use Rattle.spu_image.proofs.Laid.{inside, known, operand_fits}
 use Rattle.spu_image.proofs.words.place_word.Goals as goal
 
 pub encode-requires : goal.encode-requires

@@ -14,12 +14,12 @@ found areas ea size i r d e is = holds_from ea size (get_or areas i d) (position
 pub overflow_sub-ea : goal.overflow_sub-ea
 overflow_sub-ea c = (found c.args.areas.now c.args.ea (length c.args.bytes.now) c.in-Some.i c.first_holding.result c.index-areas-i.result c.first_holding.ensures c.in-Some.is).0
 
-pub Seq-overwrite-requires : goal.Seq-overwrite-requires
-Seq-overwrite-requires c =
+pub overwrite-requires : goal.overwrite-requires
+overwrite-requires c =
     let h = found c.args.areas.now c.args.ea (length c.args.bytes.now) c.in-Some.i c.first_holding.result c.index-areas-i.result c.first_holding.ensures c.in-Some.is in
     omega (arith, h)
 
 pub returns-in-Some : goal.returns-in-Some
 returns-in-Some c =
-    ap (λ (bytes : List ℕ). set c.args.areas.now c.in-Some.i (record (get_or c.args.areas.now c.in-Some.i c.index-areas-i.result) { bytes = bytes })) c.Seq-overwrite.ensures
+    ap (λ (bytes : List ℕ). set c.args.areas.now c.in-Some.i (record (get_or c.args.areas.now c.in-Some.i c.index-areas-i.result) { bytes = bytes })) c.overwrite.ensures
     ∙ written_there c.args.areas.now c.args.ea c.args.bytes.now c.in-Some.i c.index-areas-i.result (sym c.first_holding.ensures ∙ c.in-Some.is)

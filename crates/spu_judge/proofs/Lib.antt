@@ -1,0 +1,7 @@
+pub mod Adding
+pub mod Instructions
+pub mod Pointing
+pub mod Needs
+pub mod Cycles
+pub mod Promised
+pub mod Samples

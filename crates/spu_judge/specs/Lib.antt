@@ -1,0 +1,4 @@
+pub mod Edges
+pub mod Judged
+pub mod Answers
+pub mod Building
