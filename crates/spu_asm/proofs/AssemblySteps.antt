@@ -1,5 +1,6 @@
 -- Line after line of a text is taken.
-use Rattle.std.proofs.Common.{◌≡◌, ℕ, ◌<◌, ◌≤◌, List, [], length, refl, ap, inl, inr, Result, Err}
+use Rattle.std.proofs.Common.{◌≡◌, ℕ, ◌<◌, ◌≤◌, List, [], length, refl, sym, ap, subst, inl, inr, Result, Ok, Err}
+use Rattle.std.specs.Result.{OnOk}
 use Rattle.spu_word.specs.declared.limits.TheConstants.{MAX_FILE_SIZE}
 use Rattle.spu_text.specs.declared.lexemes.TextFault.{TextFault}
 use Rattle.spu_text.specs.declared.lexemes.TextFault.TheVariants as texts
@@ -12,7 +13,9 @@ use Rattle.spu_elf.specs.WellFormed.{IsWellFormed}
 use Rattle.spu_elf.proofs.ReadWhole.{valid_is_well_formed}
 use Rattle.spu_asm.specs.declared.faults.AsmKind.TheVariants as asm
 use Rattle.spu_asm.specs.Objects.{object_of}
-use Rattle.spu_asm.specs.Assembly.{Assembles, IsFaultOf, fault, run_of}
+use Rattle.spu_asm.specs.Faults.{Run}
+use Rattle.spu_asm.specs.Assembly.{Assembles, IsFaultOf, fault, line_after, noted, run_of}
+use Rattle.spu_word.specs.declared.sequence.OutOfMemory.{OutOfMemory}
 
 -- a valid object is well formed
 pub made_well : (o : Object) → IsValid o → IsWellFormed o
@@ -33,3 +36,8 @@ fails_is (texts.NotAscii n) read h not = h
 fails_is (texts.LineTooLong n) read h not = h
 fails_is (texts.BadNumber n) read h not = h
 fails_is texts.OutOfMemory read h not = absurd (not refl)
+
+-- such a fault is noted
+pub fault_taken : (number : ℕ) (r : Run) (f : TextFault) (read : Result (List Lexeme) TextFault) (noting : Result (Unit {0}) OutOfMemory) (Q : Run → Type 0) → Fails f read → OnOk noting (f ≡ texts.OutOfMemory → ⊥) → OnOk noting (Q (noted f r)) → OnOk noting (Q (line_after number r read))
+fault_taken number r f read (Err e) Q fails known q = tt
+fault_taken number r f read (Ok u) Q fails known q = subst (λ x. Q (line_after number r x)) (sym (fails_is f read fails known)) q

@@ -1,5 +1,5 @@
 -- What the code keeps stands for the statements that it accepted.
-use Rattle.std.proofs.Common.{◌≡◌, true, false, List, [], ◌∷◌, codes, refl, sym, ap, subst, ◌∙◌, inl, inr}
+use Rattle.std.proofs.Common.{◌≡◌, false, List, [], ◌∷◌, codes, refl, sym, ap, subst, ◌∙◌, inl, inr}
 use Rattle.std.proofs.lemmas.Bool.{cases_Bool}
 use Rattle.spu_elf.specs.declared.objects.SecKind.{SecKind}
 use Rattle.spu_elf.specs.declared.objects.SecKind.TheVariants as kinds
@@ -10,7 +10,7 @@ use Rattle.spu_asm.specs.Summaries.{enter, Draft, Sighting, Cursor, draft_in, ta
 use Rattle.spu_asm.specs.Cursors.{blank, grown_by, opened_headings, labelled, told_by, begun, label_needs, common_at, local_by, accepted_at}
 use Rattle.spu_asm.specs.Progressing.{IsMade}
 use Rattle.spu_asm.proofs.Standing.{heading_names, Drafts, IsAtHome, Holds}
-use Rattle.spu_asm.proofs.JoinTables.{same_is, same_self, neither}
+use Rattle.spu_asm.proofs.JoinTables.{same_self, neither}
 use Rattle.spu_asm.proofs.JoinSymbols.{common_place, label_place, symbols_step}
 use Rattle.spu_asm.proofs.JoinSections.{open_all, not_opened_all}
 use Rattle.spu_asm.proofs.JoinDrafts.{AreKept, not_needed, drafts_step, size_told}

@@ -1,5 +1,5 @@
 -- When sections and symbols by name stand for the statements that were accepted.
-use Rattle.std.proofs.Common.{◌≡◌, ℕ, false, List, map, codes}
+use Rattle.std.proofs.Common.{◌≡◌, false, List, map, codes}
 use Rattle.spu_asm.specs.Statements.{Name}
 use Rattle.spu_asm.specs.Histories
 use Rattle.spu_asm.specs.Histories.{History, Heading, is_among, headings, symbol_names, local_names}

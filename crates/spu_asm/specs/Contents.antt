@@ -1,7 +1,7 @@
 -- The values of `.byte` to `.octa`, by SPU Assembly Language: one or more between commas, each of so many bytes, big-endian.
 -- A number from -2^(8n-1) to 2^(8n) - 1 is taken modulo 2^(8n), for n bytes. A symbol stands only where values have four
 -- bytes; its address goes there when the program is linked.
-use Rattle.std.specs.Prelude.{◌≡◌, ℕ, ◌+◌, ◌-◌, ◌*◌, ◌%◌, ◌^◌, ◌==◌, Bool, true, false, nat_le, nat_lt, if◌then◌else◌, List, [], ◌∷◌, ◌++◌, length, map, fold, Option, Some, None, Result, Ok, Err, ℤ}
+use Rattle.std.specs.Prelude.{◌≡◌, ℕ, ◌-◌, ◌*◌, ◌%◌, ◌^◌, ◌==◌, Bool, true, false, nat_le, nat_lt, if◌then◌else◌, List, [], ◌∷◌, ◌++◌, length, map, fold, Option, Some, None, Result, Ok, Err, ℤ}
 use Rattle.std.specs.Int.{bytes_high_first}
 use Rattle.spu_reloc.specs.declared.field.RelocKind.TheVariants.{Addr32}
 use Rattle.spu_reloc.specs.Fields.{number_of}

@@ -1,5 +1,5 @@
 -- What the code keeps of the statements so far, and what the next one makes of it.
-use Rattle.std.specs.Prelude.{ℕ, ◌+◌, ◌≤◌, ◌&&◌, Bool, true, false, max, nat_lt, nat_le, List, [], ◌∷◌, ◌++◌, length, map, filter, replicate, Option, Some, None, option_map, unwrap_or, codes, Result, Ok, Err}
+use Rattle.std.specs.Prelude.{ℕ, ◌+◌, ◌≤◌, ◌&&◌, Bool, true, false, max, nat_lt, nat_le, List, [], ◌∷◌, ◌++◌, length, map, filter, replicate, Some, None, option_map, unwrap_or, codes, Result, Ok, Err}
 use Rattle.std.specs.List.{list_all}
 use Rattle.spu_word.specs.Bytes.{be_digits}
 use Rattle.spu_elf.specs.declared.objects.SecKind.{SecKind}

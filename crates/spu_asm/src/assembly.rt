@@ -4,6 +4,7 @@ ghost use Rattle.std.specs.Prelude.{◌≡◌, ◌≤◌, ◌<◌, ◌^◌, ◌�
 ghost use Rattle.spu_word.specs.declared.limits.TheConstants.{MAX_FILE_SIZE};
 ghost use Rattle.spu_elf.specs.declared.objects.Object.{Object};
 ghost use Rattle.spu_elf.specs.WellFormed.{IsWellFormed};
+ghost use Rattle.spu_text.specs.declared.lexemes.TextFault.TheVariants as texts;
 ghost use Rattle.spu_text.specs.Lexemes.{lexemes_of};
 ghost use Rattle.spu_asm.specs.Parts.{lexemes};
 ghost use Rattle.spu_asm.specs.Values.{parted};
@@ -55,7 +56,8 @@ fn take_statements<'a>(
 
 /// Notes the fault of a line that has no lexemes.
 fn note(progress: &mut Progress, fault: TextFault) -> Result<(), OutOfMemory>
-    ensures { (r : Run) → InRun r progress.old → OnOk result (InRun (noted fault r) progress.new) }
+    ensures known { OnOk result (fault ≡ texts.OutOfMemory → ⊥) }
+    ensures noted { (r : Run) → InRun r progress.old → OnOk result (InRun (noted fault r) progress.new) }
 {
     let fault = match fault {
         TextFault::NotAscii(line) => LineFault {
