@@ -56,7 +56,10 @@ fn a_cycle_is_told(rt: HostRuntime) -> Result<(), Fail> {
     assert_eq!(rt; graph.add_edge(1, 2, true), Ok(()));
     assert_eq!(rt; graph.add_edge(2, 0, true), Ok(()));
     match graph.needs(rt.alloc(), 3) {
-        Err(GraphFault::Recursion(cycle)) => assert_eq!(rt; cycle.as_slice(), [0u32, 1, 2].as_slice()),
+        Err(GraphFault::Recursion(cycle)) => assert_eq!(rt;
+            cycle.as_slice(),
+            [0u32, 1, 2].as_slice()
+        ),
         Err(GraphFault::OutOfMemory) => return Err("memory".into()),
         Ok(_) => return Err("needs".into()),
     }

@@ -23,13 +23,24 @@ fn frame_line(alloc: Global, frame: u32, need: u64, name: &[u8]) -> Result<Bytes
 }
 
 /// The line of a function, where a path from the entry reaches it.
-fn function_line(alloc: Global, p: &Prog, d: &Depths, n: &Needs, f: u32) -> Result<Bytes, OutOfMemory>
+fn function_line(
+    alloc: Global,
+    p: &Prog,
+    d: &Depths,
+    n: &Needs,
+    f: u32,
+) -> Result<Bytes, OutOfMemory>
     requires f { f < length p.now.functions }
     requires count { function_count d.now ≡ length p.now.functions }
     ensures { IfOk result (λ t. t ≡ function_line p.now d.now n.now f) }
 {
     match n.need(f) {
-        Some(need) => frame_line(alloc, d.frame(f), need, p.functions.as_slice()[f as usize].name.as_slice()),
+        Some(need) => frame_line(
+            alloc,
+            d.frame(f),
+            need,
+            p.functions.as_slice()[f as usize].name.as_slice(),
+        ),
         None => Ok(Seq::new(alloc)),
     }
 }

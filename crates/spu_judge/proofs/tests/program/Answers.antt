@@ -1,13 +1,11 @@
-use Rattle.std.proofs.Common.{◌≡◌, ◌+◌, ◌≤◌, ℕ, List, Option, Some, [], ◌∷◌, ap, sym, length, arith, length-append}
-use Rattle.std.specs.Prelude.{slice_get}
+use Rattle.std.proofs.Common.{◌≡◌, ◌+◌, ◌≤◌, ℕ, List, [], ◌∷◌, ap, length, arith, length-append}
 use Rattle.std.specs.List.{Contains}
 use Rattle.spu_lift.specs.declared.program.Function.{Function}
 use Rattle.spu_lift.specs.declared.program.Prog.{Prog}
-use Rattle.spu_lift.specs.declared.program.SymInst.{SymInst}
 use Rattle.spu_lift.specs.WellFormed.{IsCallee, IsRising}
 use Rattle.spu_frame.proofs.Formed.{if_some}
 use Rattle.spu_frame.proofs.Tests.{told}
-use Rattle.spu_judge.proofs.Samples.{IsFine, built_more, formed_as, some_from}
+use Rattle.spu_judge.proofs.Samples.{built_more, formed_as, some_from}
 use Rattle.spu_judge.proofs.tests.program.Goals as goal
 
 pub loop-body-preserved : goal.loop-body-preserved
