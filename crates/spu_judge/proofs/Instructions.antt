@@ -1,8 +1,8 @@
 -- The edge of an instruction in the graph that is made, against the edges of the program.
-use Rattle.std.proofs.Common.{◌≡◌, ℕ, ◌<◌, ◌≤◌, ◌⊎◌, inl, inr, Bool, true, false, List, [], ◌∷◌, length, Option, Some, None, refl, sym, ap, ◌∙◌, subst, arith, ℤ}
+use Rattle.std.proofs.Common.{◌≡◌, ℕ, ◌<◌, ◌⊎◌, inl, inr, Bool, true, false, List, [], ◌∷◌, length, Option, Some, None, refl, sym, ap, ◌∙◌, subst}
 use Rattle.std.specs.Prelude.{slice_get, if◌then◌else◌, ◌==◌}
 use Rattle.std.specs.List.{Contains}
-use Rattle.std.proofs.lemmas.Bool.{ne_eqb, eqb-true}
+use Rattle.std.proofs.lemmas.Bool.{ne_eqb}
 use Rattle.std.proofs.lemmas.Option.{slice_get_within}
 use Rattle.spu_isa.specs.declared.operation.Kind.{Kind}
 use Rattle.spu_isa.specs.declared.operation.Kind.TheVariants as kind
@@ -13,9 +13,8 @@ use Rattle.spu_lift.specs.declared.program.Function.{Function}
 use Rattle.spu_lift.specs.declared.program.Prog.{Prog}
 use Rattle.spu_lift.specs.Places.{place_in, instruction_at, taken_places, kind_of, link_register}
 use Rattle.spu_lift.specs.WellFormed.{IsOperand, IsWellFormed}
-use Rattle.spu_frame.specs.Walks.{Reaches}
 use Rattle.spu_graph.specs.declared.graph.Edge.{Edge}
-use Rattle.spu_judge.specs.Edges.{Leads, IsEdge}
+use Rattle.spu_judge.specs.Edges.{Leads}
 use Rattle.spu_judge.specs.Building.{pointer_node, edge_between, call_edge, jump_edge, pointer_edge, edge_by, edge_of}
 
 pub function_within : (p : Prog) (f i : ℕ) (x : SymInst) → instruction_at p f i ≡ Some x → f < length p.functions

@@ -1,7 +1,6 @@
 -- The graph that is made has the needs of the program.
-use Rattle.std.proofs.Common.{◌≡◌, ℕ, suc, ◌+◌, ◌-◌, ◌<◌, ◌≤◌, ◌⊎◌, inl, inr, Bool, true, false, List, [], ◌∷◌, length, Option, Some, None, refl, sym, ap, ◌∙◌, subst, arith}
-use Rattle.std.specs.Prelude.{slice_index, slice_get, nat_lt, if◌then◌else◌}
-use Rattle.std.specs.List.{Contains}
+use Rattle.std.proofs.Common.{◌≡◌, ℕ, suc, ◌-◌, ◌<◌, ◌≤◌, inl, inr, Bool, true, false, List, [], ◌∷◌, length, Option, Some, None, refl, sym, ap, ◌∙◌, arith}
+use Rattle.std.specs.Prelude.{nat_lt, if◌then◌else◌}
 use Rattle.std.proofs.lemmas.Bool.{lt-ltb, cond-true, ltb-true}
 use Rattle.spu_lift.specs.declared.program.Prog.{Prog}
 use Rattle.spu_lift.specs.WellFormed.{IsWellFormed}
@@ -12,7 +11,7 @@ use Rattle.spu_graph.proofs.Cycles.{Joined, round_recursive}
 use Rattle.spu_graph.proofs.Rounds.{recursive_round}
 use Rattle.spu_judge.specs.Edges.{IsEdge}
 use Rattle.spu_judge.specs.Building.{pointer_node, IsMade}
-use Rattle.spu_judge.proofs.Pointing.{edge_below, IsOwnOrNear, IsOwn, IsNear, own_path, IsThrough, through}
+use Rattle.spu_judge.proofs.Pointing.{edge_below, IsOwnOrNear, own_path, through}
 
 -- ---- graphs that have the same edges, and frames that are the same
 

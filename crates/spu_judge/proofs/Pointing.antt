@@ -1,19 +1,17 @@
 -- Edges and paths of the graph that is made, against those of the program.
-use Rattle.std.proofs.Common.{◌≡◌, ℕ, ◌+◌, ◌<◌, ◌≤◌, ◌⊎◌, inl, inr, Bool, true, false, List, [], ◌∷◌, length, Option, Some, None, IfSome, refl, sym, ap, ◌∙◌, subst, arith, ℤ}
-use Rattle.std.specs.Prelude.{slice_get}
+use Rattle.std.proofs.Common.{◌≡◌, ℕ, ◌+◌, ◌<◌, ◌≤◌, ◌⊎◌, inl, inr, Bool, false, List, [], ◌∷◌, length, Option, Some, None, IfSome, refl, sym, ap, ◌∙◌, subst, arith, ℤ}
 use Rattle.std.specs.List.{Contains}
-use Rattle.spu_isa.specs.declared.operation.Kind.TheVariants as kind
 use Rattle.spu_lift.specs.declared.program.Operand.{Operand}
 use Rattle.spu_lift.specs.declared.program.Operand.TheVariants as operand
 use Rattle.spu_lift.specs.declared.program.SymInst.{SymInst}
 use Rattle.spu_lift.specs.declared.program.Prog.{Prog}
-use Rattle.spu_lift.specs.Places.{instruction_at, kind_of}
+use Rattle.spu_lift.specs.Places.{instruction_at}
 use Rattle.spu_lift.specs.WellFormed.{IsOperand, IsWellFormed}
 use Rattle.spu_frame.specs.Walks.{Reaches}
 use Rattle.spu_graph.specs.declared.graph.Edge.{Edge}
 use Rattle.spu_graph.specs.Paths.{IsPath, weight_if, edges_weight}
 use Rattle.spu_judge.specs.Edges.{Leads, IsEdge}
-use Rattle.spu_judge.specs.Building.{pointer_node, edge_between, edge_of, IsOut, IsIn, IsMade, IsEdgeOf}
+use Rattle.spu_judge.specs.Building.{pointer_node, edge_between, edge_of, IsMade, IsEdgeOf}
 use Rattle.spu_judge.proofs.Instructions.{function_within, Points, LeadsOut, leads_out, IsLed, led}
 
 -- a reached place of h leads by a pointer

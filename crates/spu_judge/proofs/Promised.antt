@@ -1,8 +1,6 @@
 -- What a judgement says of its program.
-use Rattle.std.proofs.Common.{◌≡◌, ℕ, ◌+◌, ◌*◌, ◌^◌, ◌<◌, ◌≤◌, ◌⊎◌, inl, inr, List, map, length, [], Option, Some, None, Result, Err, IfErr, refl, sym, ap, ◌∙◌, subst, arith, ℤ}
-use Rattle.std.specs.Prelude.{slice_get, slice_index, nat_lt, if◌then◌else◌}
-use Rattle.std.specs.List.{Contains}
-use Rattle.spu_word.specs.declared.limits.TheConstants.{MAX_STACK_LIMIT, WORD_SIZE}
+use Rattle.std.proofs.Common.{◌≡◌, ℕ, ◌<◌, ◌≤◌, inl, inr, length, [], Option, Some, None, Result, Err, IfErr, refl, sym, subst, arith, ℤ}
+use Rattle.spu_word.specs.declared.limits.TheConstants.{MAX_STACK_LIMIT}
 use Rattle.spu_lift.specs.declared.program.Prog.{Prog}
 use Rattle.spu_lift.specs.Places.{IsPlace}
 use Rattle.spu_lift.specs.WellFormed.{IsWellFormed}
@@ -14,15 +12,15 @@ use Rattle.spu_frame.proofs.Formed.{place_within, code_small}
 use Rattle.spu_graph.specs.declared.graph.Edge.{Edge}
 use Rattle.spu_graph.specs.declared.fault.GraphFault.{GraphFault}
 use Rattle.spu_graph.specs.declared.fault.GraphFault.TheVariants as graph_faults
-use Rattle.spu_graph.specs.Paths.{IsPath, IsNeed, IsRecursive}
+use Rattle.spu_graph.specs.Paths.{IsPath, IsRecursive}
 use Rattle.spu_graph.specs.Cycles.{IsRefused as IsGraphFault}
 use Rattle.spu_graph.specs.Known.{AreNeeds}
 use Rattle.spu_judge.specs.declared.outcome.Judged.{Judged}
 use Rattle.spu_judge.specs.declared.outcome.JudgeFault.{JudgeFault}
 use Rattle.spu_judge.specs.Edges.{IsEdge}
 use Rattle.spu_judge.specs.Judged.{IsJudged}
-use Rattle.spu_judge.specs.Answers.{name_of, IsFrameRefusal, IsRecursionRefusal, IsLimitRefusal, IsRefused}
-use Rattle.spu_judge.specs.Building.{functions_among, IsMade, IsGraphRefused}
+use Rattle.spu_judge.specs.Answers.{IsLimitRefusal, IsRefused}
+use Rattle.spu_judge.specs.Building.{IsMade, IsGraphRefused}
 use Rattle.spu_judge.proofs.Instructions.{function_within}
 use Rattle.spu_judge.proofs.Cycles.{cycle_refused}
 

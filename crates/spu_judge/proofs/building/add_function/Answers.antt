@@ -1,4 +1,4 @@
-use Rattle.std.proofs.Common.{List, length, ◌∙◌, sym, ap, arith}
+use Rattle.std.proofs.Common.{List, length, ◌∙◌, ap, arith}
 use Rattle.spu_lift.specs.declared.program.SymInst.{SymInst}
 use Rattle.spu_judge.proofs.Adding.{place_more, function_done}
 use Rattle.spu_judge.proofs.building.add_function.Goals as goal

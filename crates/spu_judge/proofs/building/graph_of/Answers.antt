@@ -1,7 +1,5 @@
-use Rattle.std.proofs.Common.{List, length, ◌≡◌, ◌∙◌, sym, ap, subst, arith}
-use Rattle.spu_graph.specs.declared.graph.Edge.{Edge}
-use Rattle.spu_judge.specs.Building.{AreMore}
-use Rattle.spu_judge.proofs.Adding.{IsOutOf, no_function, function_more, all_made, each_made}
+use Rattle.std.proofs.Common.{◌∙◌, arith}
+use Rattle.spu_judge.proofs.Adding.{function_more, all_made, each_made}
 use Rattle.spu_judge.proofs.building.graph_of.Goals as goal
 
 pub loop-f-preserved : goal.loop-f-preserved

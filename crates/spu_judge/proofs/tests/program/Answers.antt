@@ -1,24 +1,37 @@
-use Rattle.std.proofs.Common.{◌≡◌, ◌<◌, ◌≤◌, ◌∙◌, ℕ, List, Option, Some, length, arith}
-use Rattle.std.specs.Prelude.{slice_get}
-use Rattle.std.proofs.lemmas.Bool.Decides.{nat_tests}
+use Rattle.std.proofs.Common.{◌≡◌, ◌+◌, ◌≤◌, ℕ, List, [], ◌∷◌, ap, length, arith, length-append}
+use Rattle.std.specs.List.{Contains}
+use Rattle.spu_lift.specs.declared.program.Function.{Function}
 use Rattle.spu_lift.specs.declared.program.Prog.{Prog}
-use Rattle.spu_lift.specs.declared.program.SymInst.{SymInst}
-use Rattle.spu_lift.specs.Places.{IsPlace}
-use Rattle.spu_lift.specs.WellFormed.{IsInstruction}
+use Rattle.spu_lift.specs.WellFormed.{IsCallee, IsRising}
 use Rattle.spu_frame.proofs.Formed.{if_some}
-use Rattle.spu_judge.proofs.Samples.{one_pushed, two_pushed, formed_as}
+use Rattle.spu_frame.proofs.Tests.{told}
+use Rattle.spu_judge.proofs.Samples.{built_more, formed_as, some_from}
 use Rattle.spu_judge.proofs.tests.program.Goals as goal
 
-pub returns : goal.returns
-returns c =
-    let count = length c.args.steps.now in
-    let main = c.in-Some.main in
-    let some : 1 ≤ length c.args.steps.now = grind (arith, nat_tests) in
-    let few : length c.args.steps.now ≤ 16 = omega arith in
-    let long : length main ≡ length c.args.steps.now = if_some c.in_ok-main.field-0 main (λ (code : List SymInst). length code ≡ length c.args.steps.now) c.in-Some.is c.in_ok-main.ensures.count in
-    let each : (k : ℕ) (x : SymInst) → slice_get main k ≡ Some x → (p : Prog) → length p.functions ≡ 2 → ((i : ℕ) → i < length c.args.steps.now → IsPlace p 1 i) → IsInstruction p 1 x
-    = if_some c.in_ok-main.field-0 main (λ (code : List SymInst). (k : ℕ) (x : SymInst) → slice_get code k ≡ Some x → (p : Prog) → length p.functions ≡ 2 → ((i : ℕ) → i < length c.args.steps.now → IsPlace p 1 i) → IsInstruction p 1 x) c.in-Some.is c.in_ok-main.ensures.fine in
-    formed_as _ _ _ _ _ _ _ _ _ _ main _
-    (c.functions-2.view_is ∙ two_pushed _ _ _ _ _ c.in_ok-push-2.ensures.ok c.in_ok-push.ensures.ok c.new-functions.ensures) c.in_ok-start_function.ensures c.in_ok-main_function.ensures
-    (c.code-2.view_is ∙ one_pushed _ _ _ c.in_ok-push-3.ensures.ok c.new-code.ensures) (omega arith) c.new.ensures c.new-2.ensures c.new-3.ensures c.from.ensures
-    each long some few c.in_ok-taken_functions.ensures
+pub loop-body-preserved : goal.loop-body-preserved
+loop-body-preserved c =
+    let words = c.in-Some.words in
+    let inv = c.loop-body.invariant in
+    let count = inv.count in
+    let new = ap (λ (gs : List Function). length gs) c.in_ok-push-in-Some-2.ensures.ok in
+    let long = length-append c.loop-body.functions (c.in_ok-function_of-in-Some.field-0 ∷ []) in
+    record {
+      count = omega (arith, new, long, count);
+      built = built_more _ _ _ _ _ _ _ words c.in_ok-function_of-in-Some.field-0 c.len-f.result _ inv.built
+          c.in_ok-push-in-Some.ensures.ok c.in_ok-push-in-Some-2.ensures.ok c.in_ok-function_of-in-Some.ensures c.len-f.ensures.value
+          (told c.is_name.result _ c.if-is_name.true c.is_name.ensures)
+          (some_from _ _ c.is_empty-in-loop-body.ensures c.if-is_empty-2.false) c.if-body-gt65536.false
+          (if_some c.in_ok-words.field-0 words _ c.in-Some.is c.in_ok-words.ensures.count) (omega arith)
+          (if_some c.in_ok-words.field-0 words _ c.in-Some.is c.in_ok-words.ensures.fine);
+    }
+
+pub returns-in-Some-2 : goal.returns-in-Some-2
+returns-in-Some-2 c =
+    let inv = c.loop-body.invariant in
+    let count = inv.count in
+    let some : 1 ≤ length c.args.bodies.now = some_from (length c.args.bodies.now) c.is_empty.result c.is_empty.ensures c.if-is_empty.false in
+    let taken = c.in-Some-2.taken in
+    formed_as (length c.args.bodies.now + 1) c.loop-body.functions c.loop-body.code taken inv.built (omega arith) (omega (arith, some)) (omega arith)
+    c.new.result c.new-in-Some-2.result c.new-in-Some-2-2.result c.from.result c.new.ensures c.new-in-Some-2.ensures c.new-in-Some-2-2.ensures c.from.ensures
+    (if_some c.in_ok-taken.field-0 taken IsRising c.in-Some-2.is c.in_ok-taken.ensures.rising)
+    (if_some c.in_ok-taken.field-0 taken (λ (gs : List ℕ). (p : Prog) → length p.functions ≡ length c.args.bodies.now + 1 → (g : ℕ) → Contains gs g → IsCallee p g) c.in-Some-2.is c.in_ok-taken.ensures.callees)
