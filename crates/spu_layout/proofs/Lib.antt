@@ -2,3 +2,5 @@ pub mod Steps
 pub mod Sizes
 pub mod Flats
 pub mod Making
+pub mod Regions
+pub mod Overlaid

@@ -3,3 +3,4 @@ pub mod Labels
 pub mod Placing
 pub mod Views
 pub mod Samples
+pub mod Planned
