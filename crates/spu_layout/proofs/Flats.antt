@@ -1,7 +1,7 @@
 -- A flat layout of a program that fits is one that a hop can use.
 use Rattle.std.proofs.Common.{◌≡◌, ℕ, zero, suc, ◌+◌, ◌-◌, ◌*◌, ◌%◌, ◌≤◌, List, [], ◌∷◌, length, take, Option, Some, None, refl, sym, ap, ◌∙◌, subst, arith}
 use Rattle.std.specs.Prelude.{slice_get, slice_index, sum, replicate}
-use Rattle.std.proofs.lemmas.List.{get_or-replicate, length-map}
+use Rattle.std.proofs.lemmas.List.{length-map}
 use Rattle.std.proofs.lemmas.Option.{slice_get_within}
 use Rattle.spu_word.specs.declared.limits.TheConstants.{DATA_START, STACK_TOP}
 use Rattle.spu_lift.specs.declared.program.CodeSection.{CodeSection}
@@ -10,7 +10,7 @@ use Rattle.spu_lift.specs.declared.program.SymInst.{SymInst}
 use Rattle.spu_lift.specs.declared.program.Part.{Part}
 use Rattle.spu_lift.specs.declared.program.Prog.{Prog}
 use Rattle.spu_lift.specs.StartCode.{start_code}
-use Rattle.spu_lift.specs.Places.{place_in, instruction_at, IsPlace}
+use Rattle.spu_lift.specs.Places.{place_in, instruction_at}
 use Rattle.spu_lift.specs.WellFormed.{IsWellFormed, AreInOrder}
 use Rattle.spu_plan.specs.declared.plan.Plan.{Plan}
 use Rattle.spu_plan.specs.Plans.{rounded, flat_plan}

@@ -1,7 +1,7 @@
 -- The layout that is made of the starts of sections.
-use Rattle.std.proofs.Common.{◌≡◌, ◌≢◌, ℕ, zero, suc, ◌+◌, ◌-◌, ◌*◌, ◌≤◌, ◌<◌, List, [], ◌∷◌, length, take, drop, get_or, All, Option, Some, None, refl, sym, ap, ap₂, ◌∙◌, subst, arith}
+use Rattle.std.proofs.Common.{◌≡◌, ◌≢◌, ℕ, zero, suc, ◌+◌, ◌-◌, ◌*◌, ◌≤◌, List, [], ◌∷◌, drop, All, Some, refl, sym, ap, ap₂, ◌∙◌, subst, arith}
 use Rattle.std.proofs.Math.Path.{fun_ext}
-use Rattle.std.specs.Prelude.{slice_get, slice_index, sum, map}
+use Rattle.std.specs.Prelude.{slice_get, slice_index, map}
 use Rattle.std.proofs.lemmas.Option.{slice_get_within, slice_get-get_or}
 use Rattle.spu_word.specs.declared.limits.TheConstants.{DATA_START, QUAD_SIZE, STACK_TOP, STORE_SIZE, WORD_SIZE}
 use Rattle.spu_lift.specs.declared.program.CodeSection.{CodeSection}
@@ -10,12 +10,11 @@ use Rattle.spu_lift.specs.declared.program.Prog.{Prog}
 use Rattle.spu_lift.specs.StartCode.{start_code}
 use Rattle.spu_lift.specs.WellFormed.{IsWellFormed}
 use Rattle.spu_plan.specs.declared.plan.Plan.{Plan}
-use Rattle.spu_layout.specs.declared.layout.Layout as held
 use Rattle.spu_layout.specs.Layouts.{Layout, span}
-use Rattle.spu_layout.specs.Placing.{sizes_of, section_sizes, section_start, function_start, root_end, at, layout_of, FitsFlat}
+use Rattle.spu_layout.specs.Placing.{sizes_of, section_sizes, section_start, function_start, at, layout_of, FitsFlat}
 use Rattle.spu_layout.specs.Views.{AreStarts, LiesIn, start_in}
 use Rattle.spu_layout.proofs.Sizes.{size_within}
-use Rattle.spu_layout.proofs.Flats.{planned, long, end_of, section_of, place_bounds}
+use Rattle.spu_layout.proofs.Flats.{planned, long, end_of, section_of}
 
 -- the functions behind the first one
 behind : (p : Prog) → IsWellFormed p → (f : ℕ) → slice_get p.functions (suc f) ≡ slice_get (drop 1 p.functions) f

@@ -1,6 +1,6 @@
 -- A layout with overlays, by a plan that is made, is one that a hop can use.
-use Rattle.std.proofs.Common.{◌≡◌, ℕ, zero, suc, ◌+◌, ◌-◌, ◌*◌, ◌/◌, ◌%◌, ◌≤◌, ◌<◌, ◌⊎◌, true, List, [], ◌∷◌, length, get_or, Option, Some, None, refl, sym, ap, ◌∙◌, ⊎_elim, subst, arith}
-use Rattle.std.specs.Prelude.{slice_get, slice_index, slice_index_or, sum, Contains, if◌then◌else◌}
+use Rattle.std.proofs.Common.{◌≡◌, ℕ, zero, suc, ◌+◌, ◌-◌, ◌*◌, ◌/◌, ◌%◌, ◌≤◌, ◌<◌, List, [], ◌∷◌, length, get_or, Option, Some, None, refl, sym, ap, ◌∙◌, ⊎_elim, subst, arith}
+use Rattle.std.specs.Prelude.{slice_get, slice_index, Contains, if◌then◌else◌}
 use Rattle.std.proofs.Math.Nat.{mul-le-mul_left}
 use Rattle.std.proofs.lemmas.Nat.{mul-mod_first}
 use Rattle.std.proofs.lemmas.List.{length-map}
@@ -19,8 +19,8 @@ use Rattle.spu_plan.specs.declared.plan.Plan.{Plan}
 use Rattle.spu_plan.specs.Plans.{rounded, flat_plan}
 use Rattle.spu_plan.specs.Cuts.{AreCut}
 use Rattle.spu_plan.specs.Choices.{IsInput, IsFlatPlan, IsOverlayPlan, root_total}
-use Rattle.spu_layout.specs.Layouts.{Layout, IsLaid}
-use Rattle.spu_layout.specs.Placing.{sizes_of, size_in, region_size, root_start, root_end, stub, loader_start, slots_start, constants_start, table_end, buffers_start, region_start, section_start, function_start, at, region_of_function, region, overlay_layout, flat_layout, layout_of, FitsFlat}
+use Rattle.spu_layout.specs.Layouts.{IsLaid}
+use Rattle.spu_layout.specs.Placing.{sizes_of, size_in, region_size, root_end, stub, loader_start, table_end, buffers_start, region_start, section_start, function_start, at, region_of_function, region, overlay_layout, flat_layout, layout_of, FitsFlat}
 use Rattle.spu_layout.specs.Planned.{IsInputOf, IsPlanned}
 use Rattle.spu_layout.proofs.Steps.{next_place}
 use Rattle.spu_layout.proofs.Sizes.{size_at}
@@ -167,7 +167,7 @@ module _ (p : Prog) (plan : Plan) (limit : ℕ) (well : IsWellFormed p) (input :
       let there : region p plan (suc f) ≡ r = ap (region_of_function plan) e in
       let own : g.offset + 4 * length g.code ≤ rounded within.section.size = omega (arith, fits) in
       let here = placed (region_start p plan r) (size_in r (sizes_of p) plan.region_of g.section) (rounded within.section.size) (region_size p plan r) g.offset i (length g.code)
-          (section_within g.section within.section within.there) own few (region_quad r) (region_quads r p.code plan.region_of g.section) within.aligned in
+      (section_within g.section within.section within.there) own few (region_quad r) (region_quads r p.code plan.region_of g.section) within.aligned in
       subst (λ s. Bounds p plan s (at p plan (suc f) i)) (sym there) (subst (Bounds p plan r) (sym is) (by_region r (section_start p plan g.section + g.offset + 4 * i) here))
 
   in_start : (i : ℕ) (x : SymInst) → instruction_at p 0 i ≡ Some x → Bounds p plan 0 (at p plan 0 i)
@@ -227,8 +227,8 @@ module _ (p : Prog) (plan : Plan) (limit : ℕ) (well : IsWellFormed p) (input :
 pub planned_is_laid : (p : Prog) (plan : Plan) (limit : ℕ) → IsWellFormed p → IsPlanned p plan limit → IsLaid p limit (layout_of p plan limit)
 planned_is_laid p plan limit well planned =
     ⊎_elim (λ (flat : IsFlatPlan planned.input plan). flat_is_laid p plan limit well (flat_fits flat))
-        (λ (made : IsOverlayPlan planned.input plan). subst (λ v. IsLaid p limit (if v then overlay_layout p plan limit else flat_layout p plan limit)) (sym made.overlay) (laid p plan limit well planned.input planned.allowed planned.of made))
-        planned.is
+    (λ (made : IsOverlayPlan planned.input plan). subst (λ v. IsLaid p limit (if v then overlay_layout p plan limit else flat_layout p plan limit)) (sym made.overlay) (laid p plan limit well planned.input planned.allowed planned.of made))
+    planned.is
   where
     flat_fits : IsFlatPlan planned.input plan → FitsFlat p plan limit
     flat_fits flat =

@@ -1,6 +1,6 @@
 -- The sizes of regions: what stays in the root has the root's size, and a region at most a buffer's.
-use Rattle.std.proofs.Common.{◌≡◌, ℕ, zero, suc, ◌+◌, ◌*◌, ◌/◌, ◌%◌, ◌≤◌, ◌<◌, ◌⊎◌, Bool, true, false, eqb, List, [], ◌∷◌, ◌++◌, length, get_or, refl, sym, ap, ap₂, ◌∙◌, inl, inr, ⊎_elim, subst, arith}
-use Rattle.std.specs.Prelude.{sum, replicate, map, if◌then◌else◌}
+use Rattle.std.proofs.Common.{◌≡◌, ℕ, zero, suc, ◌+◌, ◌%◌, ◌≤◌, ◌<◌, Bool, true, false, eqb, List, [], ◌∷◌, ◌++◌, length, get_or, refl, sym, ap, ◌∙◌, ⊎_elim, subst, arith}
+use Rattle.std.specs.Prelude.{sum, replicate, if◌then◌else◌}
 use Rattle.std.specs.List.{concat}
 use Rattle.std.proofs.lemmas.Bool.{eq-eqb, ne_eqb, cases_lt}
 use Rattle.std.proofs.lemmas.List.Sums.{sum_by-cons}
@@ -99,8 +99,8 @@ pick_fits b r m [] each = omega arith
 pick_fits b r m (region ∷ rest) each =
     let further = pick_fits b r (suc m) rest each.2 in
     ⊎_elim (λ (q : m < r). fits_other b r m region rest (λ e. absurd (omega arith)) further)
-        (λ (q : r ≤ m). ⊎_elim (λ (s : r < m). fits_other b r m region rest (λ e. absurd (omega arith)) further) (λ (s : m ≤ r). fits_same b r m region rest (omega arith) each.0.fits) (cases_lt r m))
-        (cases_lt m r)
+    (λ (q : r ≤ m). ⊎_elim (λ (s : r < m). fits_other b r m region rest (λ e. absurd (omega arith)) further) (λ (s : m ≤ r). fits_same b r m region rest (omega arith) each.0.fits) (cases_lt r m))
+    (cases_lt m r)
 
 -- ---- by a cut
 
@@ -119,8 +119,8 @@ module _ (b : ℕ) (sizes : List ℕ) (rooted : List Bool) (region_of : List ℕ
   pub region_fits : (r : ℕ) → size_in (suc r) sizes region_of (length sizes) ≤ b
   region_fits r =
       let is = ap (λ rs. size_in (suc r) sizes rs (length sizes)) cut.each
-          ∙ (region_in (suc r) stay sizes (numbers 1 cut.regions) (omega arith) (staying_long b sizes rooted flags)
-          ∙ ap (λ xs. pick (suc r) xs (numbers 1 cut.regions)) (sym cut.cut.whole)) in
+      ∙ (region_in (suc r) stay sizes (numbers 1 cut.regions) (omega arith) (staying_long b sizes rooted flags)
+      ∙ ap (λ xs. pick (suc r) xs (numbers 1 cut.regions)) (sym cut.cut.whole)) in
       subst (λ n. n ≤ b) (sym is) (pick_fits b (suc r) 1 cut.regions cut.cut.each)
 
 -- ---- a section in its region
