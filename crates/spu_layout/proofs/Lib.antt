@@ -4,3 +4,4 @@ pub mod Flats
 pub mod Making
 pub mod Regions
 pub mod Overlaid
+pub mod PlannedSamples

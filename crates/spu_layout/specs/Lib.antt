@@ -4,3 +4,4 @@ pub mod Placing
 pub mod Views
 pub mod Samples
 pub mod Planned
+pub mod PlannedSamples
