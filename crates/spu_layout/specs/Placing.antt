@@ -9,7 +9,7 @@ use Rattle.spu_lift.specs.declared.program.Prog.{Prog}
 use Rattle.spu_plan.specs.declared.plan.TheConstants.{START_SIZE}
 use Rattle.spu_plan.specs.declared.plan.Plan.{Plan}
 use Rattle.spu_plan.specs.Plans.{rounded, flat_plan}
-use Rattle.spu_layout.specs.declared.constants.TheConstants.{BUFFER_ALIGN, CONSTANTS_SIZE, LOADER_CODE_SIZE, LOADER_SIZE, RETURN_OFFSET, STUB_SIZE}
+use Rattle.spu_plan.specs.declared.constants.TheConstants.{BUFFER_ALIGN, CONSTANTS_SIZE, LOADER_CODE_SIZE, LOADER_SIZE, RETURN_OFFSET, STUB_SIZE}
 use Rattle.spu_layout.specs.Layouts.{Layout, span}
 
 -- the sizes that a plan is made for

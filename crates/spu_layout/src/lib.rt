@@ -1,9 +1,9 @@
 //! Where a plan puts the functions of a program in the local store.
 #![tactic(auto)]
 
-pub mod constants;
 pub mod laws;
 mod layout;
+pub mod planned;
 #[cfg(test)]
 mod tests;
 
