@@ -1,5 +1,5 @@
 -- An object of which a number passes 32 bits, or that has too many sections or symbols, has no file.
-use Rattle.std.proofs.Common.{◌≡◌, ℕ, ◌+◌, ◌≤◌, Bool, true, List, [], ◌∷◌, ◌++◌, length, map, filter, slice_get, Option, Some, None, refl, subst, arith, inl, inr}
+use Rattle.std.proofs.Common.{◌≡◌, ℕ, ◌+◌, ◌≤◌, Bool, true, false, List, [], ◌∷◌, ◌++◌, length, map, filter, slice_get, Option, Some, None, refl, subst, arith, inl, inr}
 use Rattle.std.specs.Prelude.{not}
 use Rattle.std.specs.List.{All, AllByRecursion, list_all}
 use Rattle.std.proofs.lemmas.Bool.{cases_Bool, le-leb, lt-ltb}
@@ -13,7 +13,7 @@ use Rattle.spu_asm.specs.Statements.{Name, Relocation}
 use Rattle.spu_asm.specs.Histories.{Spot}
 use Rattle.spu_asm.specs.Tables.{Rows}
 use Rattle.spu_asm.specs.Summaries.{Draft, Sighting, Cursor}
-use Rattle.spu_asm.specs.Objects.{section_at, symbol_at, is_global_at, is_local_at, ordered_at, reloc_at, relocs_at, object_at}
+use Rattle.spu_asm.specs.Objects.{section_at, symbol_at, is_global_at, is_chosen, ordered_at, reloc_at, relocs_at, object_at}
 use Rattle.spu_asm.specs.Cursors.{is_near, has_near, is_small, is_spellable}
 
 module _ {A : Type 0} (p q : A → Bool) (other : (x : A) → q x ≡ not (p x)) where
@@ -85,14 +85,14 @@ module _ (c : Cursor) (v : IsValid (object_at c)) where
   small_symbols sized =
       let P : Name × Sighting → Type 0 = λ (e : Name × Sighting). IsValidSymbol (object_at c).sections (symbol_at c.sections e) in
       let ordered = unmapped (IsValidSymbol (object_at c).sections) (symbol_at c.sections) (ordered_at c.symbols) (recursion_from_All (IsValidSymbol (object_at c).sections) (object_at c).symbols v.symbols) in
-      let parts = front_of P (filter is_local_at c.symbols) (filter is_global_at c.symbols) ordered in
-      let all = both_parts is_global_at is_local_at (λ e. refl) P c.symbols parts.0 parts.1 in
+      let parts = front_of P (filter (is_chosen false) c.symbols) (filter is_global_at c.symbols) ordered in
+      let all = both_parts is_global_at (is_chosen false) (λ e. refl) P c.symbols parts.0 parts.1 in
       tested P IsSized is_small c.symbols small_symbol all sized
 
   few_symbols_kept : length c.symbols ≤ 262144
   few_symbols_kept =
       let mapped : length (object_at c).symbols ≡ length (ordered_at c.symbols) = length-map (ordered_at c.symbols) (symbol_at c.sections) in
-      omega (arith, few_symbols (object_at c) v.small, mapped, length-append (filter is_local_at c.symbols) (filter is_global_at c.symbols), length_parts is_global_at is_local_at (λ e. refl) c.symbols)
+      omega (arith, few_symbols (object_at c) v.small, mapped, length-append (filter (is_chosen false) c.symbols) (filter is_global_at c.symbols), length_parts is_global_at (is_chosen false) (λ e. refl) c.symbols)
 
   few_sections_kept : length c.sections ≤ 4096
   few_sections_kept =

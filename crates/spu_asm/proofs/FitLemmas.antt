@@ -1,16 +1,16 @@
 -- A statement that passes its judgement fits into its section.
 use Rattle.std.proofs.Common.{◌≡◌, ℕ, ◌+◌, ◌<◌, ◌≤◌, false, nat_lt, List, [], ◌∷◌, length, replicate, codes, Option, Some, None, refl, arith, inl, inr, length-append}
-use Rattle.std.specs.Prelude.{IfSome}
+use Rattle.std.specs.Prelude.{IfSome, option_map, unwrap_or}
 use Rattle.std.proofs.lemmas.List.{length-replicate}
 use Rattle.std.proofs.lemmas.Bool.{cases_Bool, ltb-false}
 use Rattle.spu_elf.specs.declared.objects.SecKind.{SecKind}
 use Rattle.spu_elf.specs.declared.objects.SecKind.TheVariants as kinds
 use Rattle.spu_asm.specs.Statements.{Name, Effect, instruction, content, space, align, common}
-use Rattle.spu_asm.specs.Histories.{Heading, same, gap, filling, added_bytes, needs, target_of}
+use Rattle.spu_asm.specs.Histories.{Heading, same, gap, common_spot, filling, added_bytes, label_needs, needs, target_of}
 use Rattle.spu_asm.specs.Tables.{Rows, value_in, opened}
-use Rattle.spu_asm.specs.Summaries.{Draft, draft_kind, draft_size, size_at, Cursor}
+use Rattle.spu_asm.specs.Summaries.{Draft, kind_at, size_at, Cursor}
 use Rattle.spu_asm.specs.Faults.{is_too_large_at}
-use Rattle.spu_asm.specs.Cursors.{Fits, blank, opened_headings, label_needs, with_labels, common_at}
+use Rattle.spu_asm.specs.Cursors.{Fits, blank, opened_headings, with_labels}
 use Rattle.spu_asm.proofs.DraftLemmas.{length_lnops}
 
 gap_zero : (step : ℕ) → gap step 0 ≡ 0
@@ -40,7 +40,7 @@ at_start _ k j at = omega arith
 blank_fits : (e : Effect) (k j : SecKind) (at : ℕ) → at + length (added_bytes j at e) ≤ 262144 → Fits e (blank k)
 blank_fits e k j at h = omega (arith, at_start e k j at)
 
-there_fits : (e : Effect) (o : Option Draft) (k : SecKind) → draft_size o + length (added_bytes (elim (draft_kind o) [ Some j ↦ j | None ↦ k ]) (draft_size o) e) ≤ 262144 → IfSome o (Fits e)
+there_fits : (e : Effect) (o : Option Draft) (k : SecKind) → unwrap_or (option_map (λ (d : Draft). d.size) o) 0 + length (added_bytes (unwrap_or (option_map (λ (d : Draft). d.kind) o) k) (unwrap_or (option_map (λ (d : Draft). d.size) o) 0) e) ≤ 262144 → IfSome o (Fits e)
 there_fits e None k h = tt
 there_fits e (Some d) k h = h
 
@@ -58,7 +58,7 @@ keeps_all : (P : Draft → Type 0) (t : Rows Draft) (xs : List Heading) (m : Nam
 keeps_all P t [] m p q = q
 keeps_all P t (x ∷ xs) m p q = keeps_all P (opened t x.name (blank x.kind)) xs m p (keeps P t x.name m (blank x.kind) (p x.kind) q)
 
-all_fit : (c : Cursor) (ls : List Name) (e : Effect) (target : Name) (k : SecKind) → nat_lt 262144 (size_at c.sections target + length (added_bytes (elim (draft_kind (value_in c.sections target)) [ Some j ↦ j | None ↦ k ]) (size_at c.sections target) e)) ≡ false → IfSome (value_in (opened_headings (with_labels ls c).sections (needs c.current e)) target) (Fits e)
+all_fit : (c : Cursor) (ls : List Name) (e : Effect) (target : Name) (k : SecKind) → nat_lt 262144 (size_at c.sections target + length (added_bytes (kind_at c.sections target k) (size_at c.sections target) e)) ≡ false → IfSome (value_in (opened_headings (with_labels ls c).sections (needs c.current e)) target) (Fits e)
 all_fit c ls e target k h =
     let within = ltb-false _ _ h in
     let new : (j : SecKind) → Fits e (blank j) = λ j. blank_fits e j _ _ within in
@@ -70,11 +70,11 @@ pub room : (c : Cursor) (ls : List Name) (e : Effect) → is_too_large_at c e �
 room c ls (common n size step) h = all_fit c ls (common n size step) (codes ".bss") kinds.Zero h
 room c ls e h = all_fit c ls e c.current kinds.Code h
 
-spot_near : (o : Option Draft) (n : Name) (size step : ℕ) → IfSome o (Fits (common n size step)) → draft_size o + gap step (draft_size o) < 4294967296
+spot_near : (o : Option Draft) (n : Name) (size step : ℕ) → IfSome o (Fits (common n size step)) → unwrap_or (option_map (λ (d : Draft). d.size) o) 0 + gap step (unwrap_or (option_map (λ (d : Draft). d.size) o) 0) < 4294967296
 spot_near None n size step h = omega (arith, gap_zero step)
 spot_near (Some d) n size step h = omega (arith, filling_near d.kind (gap step d.size), length-append (filling d.kind (gap step d.size)) (replicate size 0))
 
 -- and a common symbol's place is near
-pub common_near : (e : Effect) (home : Name) (t : Rows Draft) → IfSome (value_in t (target_of e home)) (Fits e) → (common_at e t).offset < 4294967296
+pub common_near : (e : Effect) (home : Name) (t : Rows Draft) → IfSome (value_in t (target_of e home)) (Fits e) → (common_spot e (size_at t (codes ".bss"))).offset < 4294967296
 common_near (common n size step) home t h = spot_near (value_in t (codes ".bss")) n size step h
 common_near e home t h = omega arith

@@ -29,7 +29,7 @@ use Rattle.spu_asm.specs.declared.values.Offset.{Offset}
 use Rattle.spu_asm.specs.declared.operands.Coded.{Coded as CodeCoded}
 use Rattle.spu_asm.specs.Names.{Name, number_below_128, is_decimal, register_of, channel_of, without_suffix}
 use Rattle.spu_asm.specs.Values.{Value, plain, here, symbol, value_of, natural}
-use Rattle.spu_asm.specs.Operands.{bounds_of, slots_of, is_optional, left, scaled, quotient, signed_number, addend_of, place_field, Given, bad, far, register, immediate, nine_bits, place_symbol, target, or_bad, or_far, suffix_of, number_given, relative_given, address_given, below_128, small_given, place_given, register_given, register_number_given, channel_given, base_given, given, all_given, Coded, with_field, Reading, read, blank, coded, coded_in, reading_in}
+use Rattle.spu_asm.specs.Operands.{bounds_of, is_field, slots_of, is_optional, left, scaled, quotient, signed_number, addend_of, place_field, Given, bad, far, register, immediate, nine_bits, place_symbol, target, or_bad, or_far, suffix_of, refers, in_range, below_128, value_given, base_given, given, all_given, Coded, with_field, Reading, read, blank, coded, coded_in, reading_in}
 use Rattle.spu_reloc.specs.Fields.{kind_on}
 
 -- ---- which fields there are
@@ -71,12 +71,6 @@ has_field StopForm field.Rt = false
 has_field StopForm field.Ra = false
 has_field StopForm field.Rb = false
 has_field StopForm field.Rc = false
-
-abbrev is_field : Field → Register → Bool
-is_field field.Rt Rt = true
-is_field field.Ra Ra = true
-is_field field.Rb Rb = true
-is_field _ _ = false
 
 abbrev is_absent : Field → List Register → Bool
 is_absent f [] = true
@@ -364,28 +358,16 @@ far_gives : (o : Op) (x : Option ℤ) → ((z : ℤ) → x ≡ Some z → InImme
 far_gives o None h = tt
 far_gives o (Some z) h = h z refl
 
-number_gives : (o : Op) (r : Range) (v : Option Value) → range_fits (row_of o).layout r ≡ true → GivesField o (number_given r v)
-number_gives o r (Some (plain n)) t = far_gives o (signed_number r n) (λ z e. range_in (row_of o).layout r n z t e)
-number_gives o r (Some (here n)) t = tt
-number_gives o r (Some (symbol w n)) t = tt
-number_gives o r None t = tt
+range_gives : (o : Op) (r : Range) (n : Offset) → range_fits (row_of o).layout r ≡ true → GivesField o (in_range r n)
+range_gives o r n t = far_gives o (signed_number r n) (λ z e. range_in (row_of o).layout r n z t e)
 
 refers_by : (o : Op) (x : Option Name) (y : Option ℤ) → GivesField o (or_bad (λ (s : Name). or_far (λ (a : ℤ). target (record { name = s; addend = a })) y) x)
 refers_by o None y = tt
 refers_by o (Some s) None = tt
 refers_by o (Some s) (Some a) = tt
 
-relative_gives : (o : Op) (v : Option Value) → range_fits (row_of o).layout range.WordDistance ≡ true → GivesField o (relative_given o v)
-relative_gives o (Some (plain n)) t = tt
-relative_gives o (Some (here n)) t = far_gives o (signed_number range.WordDistance n) (λ z e. range_in (row_of o).layout range.WordDistance n z t e)
-relative_gives o (Some (symbol w n)) t = refers_by o (without_suffix (suffix_of (kind_on o)) w) (addend_of n)
-relative_gives o None t = tt
-
-address_gives : (o : Op) (r : Range) (v : Option Value) → range_fits (row_of o).layout r ≡ true → GivesField o (address_given o r v)
-address_gives o r (Some (plain n)) t = far_gives o (signed_number r n) (λ z e. range_in (row_of o).layout r n z t e)
-address_gives o r (Some (here n)) t = tt
-address_gives o r (Some (symbol w n)) t = refers_by o (without_suffix (suffix_of (kind_on o)) w) (addend_of n)
-address_gives o r None t = tt
+refers_gives : (o : Op) (w : Name) (n : Offset) → GivesField o (refers o w n)
+refers_gives o w n = refers_by o (without_suffix (suffix_of (kind_on o)) w) (addend_of n)
 
 small_number : (b : Bool) (v n : ℕ) → cond (b && nat_lt v 128) (Some v) None ≡ Some n → n < 128
 small_number b v n e = grind (arith, nat_tests)
@@ -422,12 +404,6 @@ natural_gives : (o : Op) (f : Field) (x : Option ℕ) → takes (row_of o) f ≡
 natural_gives o f None t = tt
 natural_gives o f (Some n) t = below_gives o f n t
 
-small_gives : (o : Op) (f : Field) (v : Option Value) → takes (row_of o) f ≡ true → GivesField o (small_given f v)
-small_gives o f (Some (plain n)) t = natural_gives o f (natural n) t
-small_gives o f (Some (here n)) t = tt
-small_gives o f (Some (symbol w n)) t = tt
-small_gives o f None t = tt
-
 place_small : (negative : Bool) (size k : ℕ) → cond negative (cond (nat_le size 256) (Some ((512 - size) % 512)) None) (cond (nat_le size 255) (Some size) None) ≡ Some k → k < 512
 place_small true size k e = grind (arith, nat_tests)
 place_small false size k e = grind (arith, nat_tests)
@@ -440,24 +416,6 @@ symbol_gives : (o : Op) (w : Name) (x : Option ℤ) → GivesField o (or_far (λ
 symbol_gives o w None = tt
 symbol_gives o w (Some a) = tt
 
-place_gives : (o : Op) (v : Option Value) → takes_place (row_of o) ≡ true → GivesField o (place_given v)
-place_gives o (Some (plain n)) t = bits_give o (place_field n) t (λ k e. place_small n.negative n.size k e)
-place_gives o (Some (here n)) t = tt
-place_gives o (Some (symbol w n)) t = symbol_gives o w (addend_of n)
-place_gives o None t = tt
-
-register_gives : (o : Op) (f : Field) (ts : List Lexeme) → takes (row_of o) f ≡ true → GivesField o (register_given f ts)
-register_gives o f (word w ∷ []) t = named_gives o f (register_of w) t (register_small w)
-register_gives o f _ t = tt
-
-register_number_gives : (o : Op) (ts : List Lexeme) → takes (row_of o) field.Rt ≡ true → GivesField o (register_number_given ts)
-register_number_gives o (word w ∷ []) t = named_gives o field.Rt (register_of w) t (register_small w)
-register_number_gives o ts t = small_gives o field.Rt (value_of ts) t
-
-channel_gives : (o : Op) (ts : List Lexeme) → takes (row_of o) field.Ra ≡ true → GivesField o (channel_given ts)
-channel_gives o (word w ∷ []) t = named_gives o field.Ra (channel_of w) t (channel_small w)
-channel_gives o ts t = small_gives o field.Ra (value_of ts) t
-
 base_by : (o : Op) (b : Bool) (w : Name) → takes (row_of o) field.Ra ≡ true → GivesField o (if b then or_bad (register field.Ra) (register_of w) else bad)
 base_by o true w t = named_gives o field.Ra (register_of w) t (register_small w)
 base_by o false w t = tt
@@ -468,27 +426,47 @@ base_gives o _ t = tt
 
 -- ---- all operands
 
+abbrev allows_value : Row → Slot → Bool
+allows_value r (slot.Register f) = takes r f
+allows_value r slot.RegisterNumber = takes r field.Rt
+allows_value r slot.Channel = takes r field.Ra
+allows_value r (slot.Number g) = range_fits r.layout g
+allows_value r slot.Relative = range_fits r.layout range.WordDistance
+allows_value r (slot.Address g) = range_fits r.layout g
+allows_value r (slot.Memory g) = range_fits r.layout g
+allows_value r slot.Place = takes_place r
+
 abbrev allows : Row → Slot → Bool
-allows r (slot.Register f) = takes r f
-allows r slot.RegisterNumber = takes r field.Rt
-allows r slot.Channel = takes r field.Ra
-allows r (slot.Number g) = range_fits r.layout g
-allows r slot.Relative = range_fits r.layout range.WordDistance
-allows r (slot.Address g) = range_fits r.layout g
 allows r (slot.Memory g) = range_fits r.layout g && takes r field.Ra
-allows r slot.Place = takes_place r
+allows r s = allows_value r s
+
+value_gives : (o : Op) (s : Slot) (v : Option Value) → allows_value (row_of o) s ≡ true → GivesField o (value_given o s v)
+value_gives o slot.RegisterNumber (Some (plain n)) t = natural_gives o field.Rt (natural n) t
+value_gives o slot.Channel (Some (plain n)) t = natural_gives o field.Ra (natural n) t
+value_gives o (slot.Number b) (Some (plain n)) t = range_gives o b n t
+value_gives o (slot.Memory b) (Some (plain n)) t = range_gives o b n t
+value_gives o (slot.Address b) (Some (plain n)) t = range_gives o b n t
+value_gives o (slot.Address b) (Some (symbol w n)) t = refers_gives o w n
+value_gives o slot.Relative (Some (here n)) t = range_gives o range.WordDistance n t
+value_gives o slot.Relative (Some (symbol w n)) t = refers_gives o w n
+value_gives o slot.Place (Some (plain n)) t = bits_give o (place_field n) t (λ k e. place_small n.negative n.size k e)
+value_gives o slot.Place (Some (symbol w n)) t = symbol_gives o w (addend_of n)
+value_gives o _ _ t = tt
 
 slot_gives : (o : Op) (s : Slot) (ts : List Lexeme) → allows (row_of o) s ≡ true → AllGive o (given o s ts)
-slot_gives o (slot.Register f) ts t = (register_gives o f ts t, tt)
-slot_gives o slot.RegisterNumber ts t = (register_number_gives o ts t, tt)
-slot_gives o slot.Channel ts t = (channel_gives o ts t, tt)
-slot_gives o (slot.Number g) ts t = (number_gives o g (value_of ts) t, tt)
-slot_gives o slot.Relative ts t = (relative_gives o (value_of ts) t, tt)
-slot_gives o (slot.Address g) ts t = (address_gives o g (value_of ts) t, tt)
+slot_gives o (slot.Register f) (word w ∷ []) t = (named_gives o f (register_of w) t (register_small w), tt)
+slot_gives o slot.RegisterNumber (word w ∷ []) t = (named_gives o field.Rt (register_of w) t (register_small w), tt)
+slot_gives o slot.Channel (word w ∷ []) t = (named_gives o field.Ra (channel_of w) t (channel_small w), tt)
 slot_gives o (slot.Memory g) ts t =
     let parts = both _ _ t in
-    (number_gives o g (value_of (take (length ts - 3) ts)) parts.0, (base_gives o (drop (length ts - 3) ts) parts.1, tt))
-slot_gives o slot.Place ts t = (place_gives o (value_of ts) t, tt)
+    (value_gives o (slot.Memory g) (value_of (take (length ts - 3) ts)) parts.0, (base_gives o (drop (length ts - 3) ts) parts.1, tt))
+slot_gives o (slot.Register f) ts t = (tt, tt)
+slot_gives o slot.RegisterNumber ts t = (value_gives o slot.RegisterNumber (value_of ts) t, tt)
+slot_gives o slot.Channel ts t = (value_gives o slot.Channel (value_of ts) t, tt)
+slot_gives o (slot.Number g) ts t = (value_gives o (slot.Number g) (value_of ts) t, tt)
+slot_gives o slot.Relative ts t = (value_gives o slot.Relative (value_of ts) t, tt)
+slot_gives o (slot.Address g) ts t = (value_gives o (slot.Address g) (value_of ts) t, tt)
+slot_gives o slot.Place ts t = (value_gives o slot.Place (value_of ts) t, tt)
 
 all_append : (o : Op) (xs ys : List Given) → AllGive o xs → AllGive o ys → AllGive o (xs ++ ys)
 all_append o [] ys f g = g

@@ -1,6 +1,6 @@
 -- What an effect makes of the sections that the code keeps is what the statements define.
 use Rattle.std.proofs.Common.{◌≡◌, ℕ, ◌+◌, Bool, true, false, max, List, [], ◌∷◌, ◌++◌, length, Option, Some, None, option_map, codes, refl, sym, ap, ◌∙◌, inl, inr, arith}
-use Rattle.std.specs.Prelude.{◌||◌, is_some, if◌then◌else◌}
+use Rattle.std.specs.Prelude.{◌||◌, is_some, unwrap_or, if◌then◌else◌}
 use Rattle.std.proofs.Math.Nat.{max-zero, add-zero}
 use Rattle.std.proofs.lemmas.Bool.{cases_Bool}
 use Rattle.std.proofs.lemmas.List.{append-nil}
@@ -8,9 +8,9 @@ use Rattle.std.proofs.lemmas.List.Sums.{sum_by-cons}
 use Rattle.spu_elf.specs.declared.objects.SecKind.{SecKind}
 use Rattle.spu_elf.specs.declared.objects.SecKind.TheVariants as kinds
 use Rattle.spu_asm.specs.Statements.{moved, Name, Relocation, Effect, instruction, content, space, align, common}
-use Rattle.spu_asm.specs.Histories.{History, Entry, Heading, heading, same, is_among, current, size_in, bytes_in, relocations_in, opened_all, headings, needs, needed, asked, stored, added_bytes, target_of, relocations_by}
+use Rattle.spu_asm.specs.Histories.{History, Entry, Heading, heading, same, is_among, current, size_in, bytes_in, relocations_in, added_all, headings, needs, needed, asked, stored, added_bytes, target_of, relocations_by, heading_name}
 use Rattle.spu_asm.specs.Tables.{Rows, edited}
-use Rattle.spu_asm.specs.Summaries.{Draft, draft_in, heading_name, summary, draft_kind, draft_size, kind_at, size_at, kind_here, new_bytes, enter}
+use Rattle.spu_asm.specs.Summaries.{Draft, draft_in, summary, kind_at, size_at, kind_here, new_bytes, enter}
 use Rattle.spu_asm.specs.Cursors.{blank, grown_by}
 use Rattle.spu_asm.proofs.Standing.{heading_names, Drafts, IsAtHome}
 use Rattle.spu_asm.proofs.JoinTables.{same_is, same_sym, neither, found, among_found, found_key, value_found, turned, edited_tabled, tabled_same}
@@ -77,7 +77,7 @@ other_draft h e x not =
 
 -- ---- look-ups
 
-size_found : (h : History) (n : Name) (o : Option Heading) → ((x : Heading) → o ≡ Some x → n ≡ x.name) → (o ≡ None → size_in n h ≡ 0) → draft_size (option_map (draft_in h) o) ≡ size_in n h
+size_found : (h : History) (n : Name) (o : Option Heading) → ((x : Heading) → o ≡ Some x → n ≡ x.name) → (o ≡ None → size_in n h ≡ 0) → unwrap_or (option_map (λ (d : Draft). d.size) (option_map (draft_in h) o)) 0 ≡ size_in n h
 size_found h n (Some x) named none = ap (λ m. size_in m h) (sym (named x refl))
 size_found h n None named none = sym (none refl)
 
@@ -85,10 +85,10 @@ size_found h n None named none = sym (none refl)
 pub size_told : (h : History) (xs : List Heading) (t : Rows Draft) (n : Name) → Drafts (draft_in h) xs t → size_at t n ≡ size_in n h
 size_told h xs t n p =
     ap (λ u. size_at u n) p.entries
-    ∙ ap draft_size (value_found heading_name (draft_in h) xs n)
+    ∙ ap (λ (o : Option Draft). unwrap_or (option_map (λ (d : Draft). d.size) o) 0) (value_found heading_name (draft_in h) xs n)
     ∙ size_found h n (found heading_name xs n) (found_key heading_name xs n) (λ e. ap (λ (d : Draft). d.size) (p.fresh (heading n kinds.Code) (among_found heading_name xs n ∙ ap is_some e)))
 
-kind_found : (h : History) (k : SecKind) (o : Option Heading) → (elim (draft_kind (option_map (draft_in h) o)) [ Some j ↦ j | None ↦ k ]) ≡ kind_from o k
+kind_found : (h : History) (k : SecKind) (o : Option Heading) → unwrap_or (option_map (λ (d : Draft). d.kind) (option_map (draft_in h) o)) k ≡ kind_from o k
 kind_found h k (Some x) = refl
 kind_found h k None = refl
 
@@ -96,7 +96,7 @@ kind_found h k None = refl
 kind_told : (h : History) (xs : List Heading) (t : Rows Draft) (n : Name) (k : SecKind) → Drafts (draft_in h) xs t → kind_at t n k ≡ kind_from (found heading_name xs n) k
 kind_told h xs t n k p =
     ap (λ u. kind_at u n k) p.entries
-    ∙ ap (λ (o : Option Draft). elim (draft_kind o) [ Some j ↦ j | None ↦ k ]) (value_found heading_name (draft_in h) xs n)
+    ∙ ap (λ (o : Option Draft). unwrap_or (option_map (λ (d : Draft). d.kind) o) k) (value_found heading_name (draft_in h) xs n)
     ∙ kind_found h k (found heading_name xs n)
 
 -- ---- the bytes that are added
@@ -107,7 +107,7 @@ TakesBytes h e x = same (target_of e (current h)) x.name ≡ true → new_bytes 
 
 -- the first section of its name among those of a history and those that a statement needs
 abbrev IsFound : History → List Name → Effect → Heading → Type 0
-IsFound h ls e x = found heading_name (opened_all (headings h) (needed (current h) ls e)) x.name ≡ Some x
+IsFound h ls e x = found heading_name (added_all heading_name (headings h) (needed (current h) ls e)) x.name ≡ Some x
 
 -- the sections of a history, by name
 abbrev pub AreKept : History → Type 0
@@ -115,12 +115,12 @@ AreKept h = Drafts (draft_in h) (headings h) (summary h).sections
 
 padded_kind : (h : History) (ls : List Name) (step : ℕ) (x : Heading) → AreKept h → IsFound h ls (align step) x → current h ≡ x.name → kind_here (summary h) ≡ x.kind
 padded_kind h ls step x kept f e =
-    let here : found heading_name (opened_all (headings h) (needed (current h) ls (align step))) (current h) ≡ Some x = ap (found heading_name (opened_all (headings h) (needed (current h) ls (align step)))) e ∙ f in
+    let here : found heading_name (added_all heading_name (headings h) (needed (current h) ls (align step))) (current h) ≡ Some x = ap (found heading_name (added_all heading_name (headings h) (needed (current h) ls (align step)))) e ∙ f in
     kind_told h (headings h) (summary h).sections (current h) kinds.Code kept ∙ kind_first (found heading_name (headings h) (current h)) (heading (current h) kinds.Code) x (sym (found_padded (headings h) (current h) ls step) ∙ here)
 
 common_kind : (h : History) (ls : List Name) (n : Name) (size step : ℕ) (x : Heading) → AreKept h → IsAtHome (headings h) (current h) → IsFound h ls (common n size step) x → codes ".bss" ≡ x.name → kind_at (summary h).sections (codes ".bss") kinds.Zero ≡ x.kind
 common_kind h ls n size step x kept at_home f e =
-    let here : found heading_name (opened_all (headings h) (needed (current h) ls (common n size step))) (codes ".bss") ≡ Some x = ap (found heading_name (opened_all (headings h) (needed (current h) ls (common n size step)))) e ∙ f in
+    let here : found heading_name (added_all heading_name (headings h) (needed (current h) ls (common n size step))) (codes ".bss") ≡ Some x = ap (found heading_name (added_all heading_name (headings h) (needed (current h) ls (common n size step)))) e ∙ f in
     kind_told h (headings h) (summary h).sections (codes ".bss") kinds.Zero kept ∙ kind_first (found heading_name (headings h) (codes ".bss")) (heading (codes ".bss") kinds.Zero) x (sym (found_common (headings h) (current h) ls n size step at_home) ∙ here)
 
 place_is : (h : History) (n : Name) (x : Heading) → AreKept h → n ≡ x.name → size_at (summary h).sections n ≡ size_in x.name h
@@ -177,9 +177,9 @@ untouched h (common n size step) x none = elsewhere h (common n size step) x non
 untouched h _ x none = (either_way (same (current h) x.name) (draft_in h x), λ is. refl)
 
 -- **the sections behind a statement**
-pub drafts_step : (h : History) (ls : List Name) (e : Effect) (t : Rows Draft) → AreKept h → IsAtHome (headings h) (current h) → Drafts (draft_in h) (opened_all (headings h) (needed (current h) ls e)) t → ((x : Heading) → is_among (heading_names (headings h)) x.name ≡ false → draft_in h x ≡ blank x.kind) → Drafts (draft_in (enter h ls e ∷ h)) (opened_all (headings h) (needed (current h) ls e)) (edited t (target_of e (current h)) (grown_by e))
+pub drafts_step : (h : History) (ls : List Name) (e : Effect) (t : Rows Draft) → AreKept h → IsAtHome (headings h) (current h) → Drafts (draft_in h) (added_all heading_name (headings h) (needed (current h) ls e)) t → ((x : Heading) → is_among (heading_names (headings h)) x.name ≡ false → draft_in h x ≡ blank x.kind) → Drafts (draft_in (enter h ls e ∷ h)) (added_all heading_name (headings h) (needed (current h) ls e)) (edited t (target_of e (current h)) (grown_by e))
 drafts_step h ls e t kept at_home p fresh =
-    let xs : List Heading = opened_all (headings h) (needed (current h) ls e) in
+    let xs : List Heading = added_all heading_name (headings h) (needed (current h) ls e) in
     record {
       entries =
           ap (λ u. edited u (target_of e (current h)) (grown_by e)) p.entries

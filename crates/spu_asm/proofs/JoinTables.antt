@@ -4,7 +4,7 @@ use Rattle.std.specs.Prelude.{◌||◌, is_some, if◌then◌else◌}
 use Rattle.std.proofs.lemmas.Bool.{cases_Bool}
 use Rattle.std.proofs.lemmas.Slice.Eq.{bytes_eq-Decides}
 use Rattle.spu_asm.specs.Statements.{Name}
-use Rattle.spu_asm.specs.Histories.{same, is_among, seen}
+use Rattle.spu_asm.specs.Histories.{same, is_among, added, itself}
 use Rattle.spu_asm.specs.Tables.{Distinct, value_in, edited}
 use Rattle.spu_asm.specs.Summaries.{tabled}
 
@@ -36,27 +36,27 @@ pub either_not : (a b : Bool) → a ≡ false → b ≡ false → (a || b) ≡ f
 either_not a b p q = rw (p, q) refl
 
 -- a name that isn't there after another was seen
-pub not_seen : (ms : List Name) (k n : Name) → is_among (seen ms k) n ≡ false → (same n k ≡ false) × (is_among ms n ≡ false)
+pub not_seen : (ms : List Name) (k n : Name) → is_among (added itself ms k) n ≡ false → (same n k ≡ false) × (is_among ms n ≡ false)
 not_seen [] k n h = ((neither (same n k) false h).0, refl)
 not_seen (m ∷ ms) k n h = elim (cases_Bool (same k m)) [
   | inl is ↦ let e = same_is k m is in let all = rw is at h in (rw e (neither (same n m) (is_among ms n) all).0, all)
   | inr not ↦
       let all = rw not at h in
-      let p = neither (same n m) (is_among (seen ms k) n) all in
+      let p = neither (same n m) (is_among (added itself ms k) n) all in
       let q = not_seen ms k n p.1 in
       (q.0, either_not (same n m) (is_among ms n) p.0 q.1)
 ]
 
-among_seen : (ms : List Name) (n k : Name) → same k n ≡ false → is_among ms k ≡ false → is_among (seen ms n) k ≡ false
+among_seen : (ms : List Name) (n k : Name) → same k n ≡ false → is_among ms k ≡ false → is_among (added itself ms n) k ≡ false
 among_seen [] n k ne h = rw ne refl
 among_seen (m ∷ ms) n k ne h =
     let p = neither (same k m) (is_among ms k) h in
     elim (cases_Bool (same n m)) [
       | inl is ↦ rw is h
-      | inr not ↦ rw not (either_not (same k m) (is_among (seen ms n) k) p.0 (among_seen ms n k ne p.1))
+      | inr not ↦ rw not (either_not (same k m) (is_among (added itself ms n) k) p.0 (among_seen ms n k ne p.1))
     ]
 
-pub seen_distinct : (ms : List Name) (n : Name) → Distinct ms → Distinct (seen ms n)
+pub seen_distinct : (ms : List Name) (n : Name) → Distinct ms → Distinct (added itself ms n)
 seen_distinct [] n d = (refl, tt)
 seen_distinct (m ∷ ms) n d = elim (cases_Bool (same n m)) [
   | inl is ↦ rw is d

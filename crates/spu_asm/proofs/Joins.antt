@@ -3,19 +3,19 @@ use Rattle.std.proofs.Common.{◌≡◌, false, List, [], ◌∷◌, codes, refl
 use Rattle.std.proofs.lemmas.Bool.{cases_Bool}
 use Rattle.spu_elf.specs.declared.objects.SecKind.{SecKind}
 use Rattle.spu_elf.specs.declared.objects.SecKind.TheVariants as kinds
-use Rattle.spu_asm.specs.Statements.{Name, Effect, section, may_be_common, common}
-use Rattle.spu_asm.specs.Histories.{History, Entry, Heading, heading, same, is_among, current, home_after, size_in, opened_all, headings, needs, needed, target_of, allowed_by, seen, seen_all, symbol_names, local_names}
+use Rattle.spu_asm.specs.Statements.{Name, Effect, section, may_be_common}
+use Rattle.spu_asm.specs.Histories.{History, Entry, Heading, heading, same, is_among, current, home_after, size_in, added_all, headings, label_needs, needs, needed, target_of, named_by, allowed_by, added, symbol_names, local_names, itself, heading_name}
 use Rattle.spu_asm.specs.Tables.{Rows, edited, opened}
-use Rattle.spu_asm.specs.Summaries.{enter, Draft, Sighting, Cursor, draft_in, tabled, itself, summary, size_at}
-use Rattle.spu_asm.specs.Cursors.{blank, grown_by, opened_headings, labelled, told_by, begun, label_needs, common_at, local_by, accepted_at}
+use Rattle.spu_asm.specs.Summaries.{enter, Draft, Sighting, Cursor, draft_in, tabled, placed, summary, size_at}
+use Rattle.spu_asm.specs.Cursors.{blank, grown_by, opened_headings, told_all, local_by, accepted_at}
 use Rattle.spu_asm.specs.Progressing.{IsMade}
 use Rattle.spu_asm.proofs.Standing.{heading_names, Drafts, IsAtHome, Holds}
 use Rattle.spu_asm.proofs.JoinTables.{same_self, neither}
-use Rattle.spu_asm.proofs.JoinSymbols.{common_place, label_place, symbols_step}
+use Rattle.spu_asm.proofs.JoinSymbols.{label_place, told_behind, symbols_step}
 use Rattle.spu_asm.proofs.JoinSections.{open_all, not_opened_all}
 use Rattle.spu_asm.proofs.JoinDrafts.{AreKept, not_needed, drafts_step, size_told}
 
-begins : Holds [] begun
+begins : Holds [] (summary [])
 begins = record {
   current = refl;
   sections = record { entries = refl; distinct = tt; fresh = λ x h. blank_in x.kind x.name };
@@ -35,20 +35,20 @@ begins = record {
 abbrev listed : List Name → Rows (Unit {0})
 listed ns = tabled itself (λ n. tt) ns
 
-opened_local : (ns : List Name) (m : Name) → opened (listed ns) m tt ≡ listed (seen ns m)
+opened_local : (ns : List Name) (m : Name) → opened (listed ns) m tt ≡ listed (added itself ns m)
 opened_local [] m = refl
 opened_local (n ∷ ns) m = elim (cases_Bool (same m n)) [
   | inl is ↦ rw is refl
   | inr not ↦ rw not (ap (λ (t : Rows (Unit {0})). (n, tt) ∷ t) (opened_local ns m))
 ]
 
-locals_step : (e : Effect) (ns : List Name) → local_by e (listed ns) ≡ listed (seen_all ns (allowed_by e))
+locals_step : (e : Effect) (ns : List Name) → local_by e (listed ns) ≡ listed (added_all itself ns (allowed_by e))
 locals_step (may_be_common m) ns = opened_local ns m
 locals_step _ ns = refl
 
 -- ---- the section in which the next statement stands
 
-stays_home : (h : History) (ls : List Name) (e : Effect) → IsAtHome (headings h) (current h) → IsAtHome (opened_all (headings h) (needed (current h) ls e)) (current h)
+stays_home : (h : History) (ls : List Name) (e : Effect) → IsAtHome (headings h) (current h) → IsAtHome (added_all heading_name (headings h) (needed (current h) ls e)) (current h)
 stays_home h ls e at_home none = at_home (not_opened_all (headings h) (needed (current h) ls e) (current h) none).1
 
 goes_home : (h : History) (ls : List Name) (e : Effect) → IsAtHome (headings h) (current h) → IsAtHome (headings (enter h ls e ∷ h)) (home_after e (current h))
@@ -64,30 +64,26 @@ opened_is : (t : Rows Draft) (home : Name) (ls : List Name) (e : Effect) → ope
 opened_is t home [] e = refl
 opened_is t home (l ∷ ls) e = refl
 
-common_is : (h : History) (e : Effect) (t : Rows Draft) → size_at t (codes ".bss") ≡ size_in (codes ".bss") h → common_at e t ≡ common_place e h
-common_is h (common n size step) t bss = rw bss refl
-common_is h _ t bss = refl
-
 -- the cursor behind a statement, by the history
 abbrev After : History → List Name → Effect → Cursor → Cursor
 After h ls e c = record {
   current = home_after e (current h);
   sections = edited (opened_headings c.sections (needed (current h) ls e)) (target_of e (current h)) (grown_by e);
-  symbols = told_by e (labelled c.symbols ls (label_place h)) (size_in (current h) h) (common_place e h);
+  symbols = told_all (told_all c.symbols ls (placed (label_place h))) (named_by e) (told_behind h e);
   locals = local_by e c.locals;
 }
 
-opened_drafts : (h : History) (ls : List Name) (e : Effect) (c : Cursor) → Holds h c → Drafts (draft_in h) (opened_all (headings h) (needed (current h) ls e)) (opened_headings c.sections (needed (current h) ls e))
+opened_drafts : (h : History) (ls : List Name) (e : Effect) (c : Cursor) → Holds h c → Drafts (draft_in h) (added_all heading_name (headings h) (needed (current h) ls e)) (opened_headings c.sections (needed (current h) ls e))
 opened_drafts h ls e c p = open_all (draft_in h) (headings h) c.sections (needed (current h) ls e) p.sections
 
 after_is : (h : History) (ls : List Name) (e : Effect) (c : Cursor) → Holds h c → accepted_at c ls e ≡ After h ls e c
 after_is h ls e c p =
-    let xs : List Heading = opened_all (headings h) (needed (current h) ls e) in
+    let xs : List Heading = added_all heading_name (headings h) (needed (current h) ls e) in
     let t : Rows Draft = opened_headings c.sections (needed (current h) ls e) in
     let d : Drafts (draft_in h) xs t = opened_drafts h ls e c p in
     let size : size_at c.sections (current h) ≡ size_in (current h) h = size_told h (headings h) c.sections (current h) p.sections in
     let more : size_at t (current h) ≡ size_in (current h) h = size_told h xs t (current h) d in
-    let bss : common_at e t ≡ common_place e h = common_is h e t (size_told h xs t (codes ".bss") d) in
+    let bss : size_at t (codes ".bss") ≡ size_in (codes ".bss") h = size_told h xs t (codes ".bss") d in
     rw (p.current, opened_is c.sections (current h) ls e, size, more, bss) refl
 
 kept : (h : History) (c : Cursor) → Holds h c → AreKept h
@@ -119,9 +115,6 @@ stands (e ∷ h) m =
     let p : Holds (enter h e.labels e.effect ∷ h) (accepted_at (summary h) e.labels e.effect) = step h (summary h) e.labels e.effect (stands h m.1) in
     let q : Holds (enter h e.labels e.effect ∷ h) (summary (enter h e.labels e.effect ∷ h)) = subst (Holds (enter h e.labels e.effect ∷ h)) (is_summary _ _ p) p in
     subst (λ (x : Entry). Holds (x ∷ h) (summary (x ∷ h))) (sym m.0) q
-
-pub nothing_kept : begun ≡ summary []
-nothing_kept = refl
 
 -- what a statement makes of it
 pub summary_step : (h : History) (ls : List Name) (e : Effect) → IsMade h → accepted_at (summary h) ls e ≡ summary (enter h ls e ∷ h)

@@ -1,5 +1,4 @@
 pub mod Standing
-pub mod NumeralLemmas
 pub mod NameLemmas
 pub mod JoinTables
 pub mod JoinSymbols

@@ -12,6 +12,7 @@ use Rattle.spu_reloc.specs.Fields.{kind_on, fits_on, number_of}
 use Rattle.spu_reloc.proofs.Patches.{one_kind}
 use Rattle.spu_asm.specs.declared.faults.AsmKind.TheVariants as asm
 use Rattle.spu_asm.specs.declared.slots.Slot.{Slot}
+use Rattle.spu_asm.specs.declared.slots.Slot.TheVariants as slot
 use Rattle.spu_asm.specs.declared.operands.Target.{Target as CodeTarget}
 use Rattle.spu_asm.specs.declared.operands.Coded.{Coded as CodeCoded}
 use Rattle.spu_asm.specs.Names.{Name}
@@ -21,12 +22,22 @@ use Rattle.spu_asm.specs.Encoding.{word_of}
 use Rattle.spu_asm.specs.Statements.{Relocation, relocations_by, listed, target_name, instruction_of}
 use Rattle.spu_asm.specs.Directives.{common_by}
 use Rattle.spu_asm.specs.StatementReading.{instructed}
-use Rattle.spu_asm.specs.Operands.{Given, bad, Target, Reading, read, all_given, coded, target_in, coded_in}
+use Rattle.spu_asm.specs.Operands.{Given, bad, Target, Reading, value_given, read, all_given, coded, target_in, coded_in}
 use Rattle.spu_asm.proofs.PartLemmas.{has_part}
 
 pub fold_twice : (r : Reading) (xs ys : List Given) → fold read r (xs ++ ys) ≡ fold read (fold read r xs) ys
 fold_twice r [] ys = refl
 fold_twice r (x ∷ xs) ys = fold_twice (read r x) xs ys
+
+pub no_value : (o : Op) (s : Slot) → bad ≡ value_given o s None
+no_value o (slot.Register f) = refl
+no_value o slot.RegisterNumber = refl
+no_value o slot.Channel = refl
+no_value o (slot.Number b) = refl
+no_value o slot.Relative = refl
+no_value o (slot.Address b) = refl
+no_value o (slot.Memory b) = refl
+no_value o slot.Place = refl
 
 pub kind_is : (k : RelocKind) (o : Op) → fits_on k o ≡ true → k ≡ kind_on o
 kind_is k o e = one_kind k o e

@@ -12,8 +12,8 @@ use Rattle.spu_asm.specs.Statements.{Name, Relocation}
 use Rattle.spu_asm.specs.Histories.{same, is_among}
 use Rattle.spu_asm.specs.Tables.{Rows, index_in, opened, with_values, Distinct}
 use Rattle.spu_asm.specs.Summaries.{Draft, Sighting}
-use Rattle.spu_asm.specs.Objects.{is_global_at, is_local_at, ordered_at, reloc_at, relocs_at}
-use Rattle.spu_asm.specs.Cursors.{chosen, is_chosen, numbered}
+use Rattle.spu_asm.specs.Objects.{is_global_at, is_chosen, chosen, ordered_at, reloc_at, relocs_at}
+use Rattle.spu_asm.specs.Cursors.{numbered}
 use Rattle.spu_asm.proofs.TableLemmas.{index_with}
 use Rattle.spu_asm.proofs.JoinTables.{same_sym, neither}
 
@@ -114,11 +114,11 @@ module _ {T : Type 0} where
 ordered_apart : (t : Rows Sighting) → Apart t → Apart (ordered_at t)
 ordered_apart [] a = tt
 ordered_apart (e ∷ es) a =
-    let locals = knows_filter is_local_at es e.0 a.0 in
+    let locals = knows_filter (is_chosen false) es e.0 a.0 in
     let globals = knows_filter is_global_at es e.0 a.0 in
     elim (cases_Bool (is_global_at e)) [
-      | inl is ↦ rw is (apart_between (filter is_local_at es) (filter is_global_at es) e (ordered_apart es a.1) locals globals)
-      | inr un ↦ rw un (knows_append (filter is_local_at es) (filter is_global_at es) e.0 locals globals, ordered_apart es a.1)
+      | inl is ↦ rw is (apart_between (filter (is_chosen false) es) (filter is_global_at es) e (ordered_apart es a.1) locals globals)
+      | inr un ↦ rw un (knows_append (filter (is_chosen false) es) (filter is_global_at es) e.0 locals globals, ordered_apart es a.1)
     ]
 
 -- ---- their numbers
@@ -145,7 +145,7 @@ still_new o e (x ∷ xs) k a =
 numbered_is : (o : Rows (Unit {0})) (es : Rows Sighting) → AreNew o es → Apart es → numbered o es ≡ o ++ nameless es
 numbered_is o [] n a = sym (append-nil o)
 numbered_is o (e ∷ es) n a =
-    rw (opened_new o e.0 n.0) (numbered_is (o ++ (e.0, tt) ∷ []) es (still_new o e es a.0 n.1) a.1 ∙ append_assoc o ((e.0, tt) ∷ []) (nameless es))
+    ap (λ (x : Rows (Unit {0})). numbered x es) (opened_new o e.0 n.0) ∙ numbered_is (o ++ (e.0, tt) ∷ []) es (still_new o e es a.0 n.1) a.1 ∙ append_assoc o ((e.0, tt) ∷ []) (nameless es)
 
 all_new : (es : Rows Sighting) → AreNew [] es
 all_new [] = tt

@@ -17,6 +17,12 @@ use Rattle.spu_asm.proofs.Joins.{summary_step}
 use Rattle.spu_asm.proofs.FileLemmas.{valid_spellable}
 use Rattle.spu_asm.proofs.SizeLemmas.{keeps_size, rows_sized}
 
+-- the code has taken so much of a text that the rest leads to what the text comes to
+pub record Leads (r : Run) (f : Run → Run) (p : Progress) : Type 0 where
+  pub now : Run
+  pub taken : InRun now p
+  pub leads : f now ≡ r
+
 chosen_some : (c : Bool) (a b : AsmKind) → (if c then Some b else Some a) ≡ None → ⊥
 chosen_some true a b e = cc
 chosen_some false a b e = cc

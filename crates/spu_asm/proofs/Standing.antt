@@ -2,10 +2,10 @@
 use Rattle.std.proofs.Common.{◌≡◌, false, List, map, codes}
 use Rattle.spu_asm.specs.Statements.{Name}
 use Rattle.spu_asm.specs.Histories
-use Rattle.spu_asm.specs.Histories.{History, Heading, is_among, headings, symbol_names, local_names}
+use Rattle.spu_asm.specs.Histories.{History, Heading, is_among, headings, symbol_names, local_names, heading_name, itself}
 use Rattle.spu_asm.specs.Tables.{Rows, Distinct}
-use Rattle.spu_asm.specs.Summaries.{Draft, Sighting, Cursor, draft_in, sighting_in, tabled, heading_name, itself}
-use Rattle.spu_asm.specs.Cursors.{blank, unseen}
+use Rattle.spu_asm.specs.Summaries.{Draft, Sighting, Cursor, unseen, draft_in, sighting_in, tabled}
+use Rattle.spu_asm.specs.Cursors.{blank}
 
 abbrev pub heading_names : List Heading → List Name
 heading_names xs = map heading_name xs

@@ -5,9 +5,9 @@ use Rattle.std.proofs.lemmas.List.{take_more, map-append}
 use Rattle.std.proofs.lemmas.Slice.Eq.{bytes_eq-Decides}
 use Rattle.spu_asm.specs.Statements.{Name, Relocation}
 use Rattle.spu_asm.specs.Histories.{same, relocation_names}
-use Rattle.spu_asm.specs.Tables.{Rows, opened, put}
+use Rattle.spu_asm.specs.Tables.{Rows, edited, put}
 use Rattle.spu_asm.specs.Summaries.{Sighting}
-use Rattle.spu_asm.specs.Cursors.{unseen, state_at, told, mentioned}
+use Rattle.spu_asm.specs.Cursors.{state_at, told, told_all}
 
 same_self : (n : Name) → same n n ≡ true
 same_self n = (bytes_eq-Decides n n).1 refl
@@ -23,11 +23,19 @@ told_put (e ∷ es) n f = elim (cases_Bool (same n e.0)) [
 pub told_noted : (t : Rows Sighting) (n : Name) (f : Sighting → Sighting) (s : Sighting) (new : Rows Sighting) → s ≡ state_at t n → new ≡ put t n (f s) → new ≡ told t n f
 told_noted t n f s new e p = p ∙ ap (λ (x : Sighting). put t n (f x)) e ∙ told_put t n f
 
-pub mentioned_more : {A : Type 0} (f : A → Relocation) (xs : List A) (i : ℕ) (x : A) (t0 t1 t2 : Rows Sighting) → i < length xs → t1 ≡ mentioned t0 (relocation_names (map f (take i xs))) → t2 ≡ opened t1 (f (get_or xs i x)).name unseen → t2 ≡ mentioned t0 (relocation_names (map f (take (i + 1) xs)))
+-- no value is changed
+pub edited_same : (t : Rows Sighting) (n : Name) → edited t n (λ s. s) ≡ t
+edited_same [] n = refl
+edited_same (e ∷ es) n = elim (cases_Bool (same n e.0)) [
+  | inl is ↦ rw is refl
+  | inr not ↦ rw not (ap (λ (t : Rows Sighting). e ∷ t) (edited_same es n))
+]
+
+pub mentioned_more : {A : Type 0} (f : A → Relocation) (xs : List A) (i : ℕ) (x : A) (t0 t1 t2 : Rows Sighting) → i < length xs → t1 ≡ told_all t0 (relocation_names (map f (take i xs))) (λ s. s) → t2 ≡ told t1 (f (get_or xs i x)).name (λ s. s) → t2 ≡ told_all t0 (relocation_names (map f (take (i + 1) xs))) (λ s. s)
 mentioned_more f xs i x t0 t1 t2 lt p q =
     let more : map f (take i xs) ++ f (get_or xs i x) ∷ [] ≡ map f (take (i + 1) xs) = sym (map-append f (take i xs) (get_or xs i x ∷ [])) ∙ ap (map f) (sym (take_more xs i x lt)) in
-    q ∙ ap (λ (t : Rows Sighting). opened t (f (get_or xs i x)).name unseen) p ∙ sym (push (map f (take i xs)) t0 (f (get_or xs i x))) ∙ ap (λ (rs : List Relocation). mentioned t0 (relocation_names rs)) more
+    q ∙ ap (λ (t : Rows Sighting). told t (f (get_or xs i x)).name (λ s. s)) p ∙ sym (push (map f (take i xs)) t0 (f (get_or xs i x))) ∙ ap (λ (rs : List Relocation). told_all t0 (relocation_names rs) (λ s. s)) more
   where
-    push : (rs : List Relocation) (t : Rows Sighting) (r : Relocation) → mentioned t (relocation_names (rs ++ r ∷ [])) ≡ opened (mentioned t (relocation_names rs)) r.name unseen
+    push : (rs : List Relocation) (t : Rows Sighting) (r : Relocation) → told_all t (relocation_names (rs ++ r ∷ [])) (λ s. s) ≡ told (told_all t (relocation_names rs) (λ s. s)) r.name (λ s. s)
     push [] t r = refl
-    push (s ∷ ss) t r = push ss (opened t s.name unseen) r
+    push (s ∷ ss) t r = push ss (told t s.name (λ s. s)) r

@@ -8,11 +8,10 @@ use Rattle.spu_reloc.specs.Fields.{number_of}
 use Rattle.spu_text.specs.Lexemes.{Lexeme}
 use Rattle.spu_asm.specs.Values.{Value, plain, symbol, value_of, parted}
 use Rattle.spu_asm.specs.Operands.{addend_of}
-use Rattle.spu_asm.specs.Statements.{Name, Effect, Relocation, moved, content, effect_of, address_relocation}
+use Rattle.spu_asm.specs.Statements.{Name, Effect, moved, content, effect_of}
 use Rattle.spu_asm.specs.declared.faults.AsmKind.{AsmKind}
 use Rattle.spu_asm.specs.declared.faults.AsmKind.TheVariants.{BadDirective, Range}
 use Rattle.spu_asm.specs.declared.statements.Action.{Action}
-use Rattle.spu_asm.specs.declared.statements.Content.{Content}
 use Rattle.spu_asm.specs.declared.refusals.Refusal.{Refusal}
 use Rattle.spu_asm.specs.declared.refusals.Refusal.TheVariants as refusals
 use Rattle.spu_asm.specs.declared.values.Offset.{Offset}
@@ -20,17 +19,6 @@ use Rattle.spu_asm.specs.declared.values.Offset.{Offset}
 -- what a statement does, or its least fault
 abbrev pub Meaning : Type 0
 Meaning = Result Effect AsmKind
-
--- the bytes of values, and the relocations in them
-pub record Stretch : Type 0 where
-  pub bytes : List ℕ
-  pub relocations : List Relocation
-
-abbrev pub stretch : List ℕ → List Relocation → Stretch
-stretch bs rs = record { bytes = bs; relocations = rs }
-
-abbrev pub Values : Type 0
-Values = Result Stretch AsmKind
 
 -- ---- one value
 
@@ -42,45 +30,38 @@ fits width n = if n.negative then nat_le n.size (2 ^ (8 * width - 1)) else nat_l
 abbrev pub complement : Offset → ℕ
 complement n = if n.negative then (2 ^ 128 - n.size) % 2 ^ 128 else n.size
 
-abbrev pub number_value : ℕ → Offset → Values
-number_value width n = if fits width n then Ok (stretch (bytes_high_first width (complement n)) ([])) else Err Range
-
 -- an address takes four bytes
-abbrev pub address_value : Name → Option ℤ → Values
-address_value w (Some n) = Ok (stretch (0 ∷ 0 ∷ 0 ∷ 0 ∷ []) (record { offset = 0; number = number_of Addr32; name = w; addend = n } ∷ []))
+abbrev pub address_value : Name → Option ℤ → Meaning
+address_value w (Some n) = Ok (content (0 ∷ 0 ∷ 0 ∷ 0 ∷ []) (record { offset = 0; number = number_of Addr32; name = w; addend = n } ∷ []))
 address_value w None = Err Range
 
-abbrev pub one_value : ℕ → Option Value → Values
-one_value width (Some (plain n)) = number_value width n
+abbrev pub one_value : ℕ → Option Value → Meaning
+one_value width (Some (plain n)) = if fits width n then Ok (content (bytes_high_first width (complement n)) ([])) else Err Range
 one_value width (Some (symbol w n)) = if width == 4 then address_value w (addend_of n) else Err BadDirective
 one_value width _ = Err BadDirective
 
 -- ---- all values
 
-abbrev pub is_far : Values → Bool
+abbrev pub is_far : Meaning → Bool
 is_far (Err Range) = true
 is_far _ = false
 
 -- one behind the other; a number outside its range counts before all other faults
-abbrev pub joined : Values → Values → Values
-joined (Ok a) (Ok b) = Ok (stretch (a.bytes ++ b.bytes) (a.relocations ++ moved (length a.bytes) b.relocations))
-joined (Ok a) (Err k) = Err k
-joined (Err k) r = if is_far r then r else Err k
+abbrev pub joined : Meaning → Meaning → Meaning
+joined (Ok (content bs rs)) (Ok (content cs qs)) = Ok (content (bs ++ cs) (rs ++ moved (length bs) qs))
+joined (Err k) m = if is_far m then m else Err k
+joined _ m = m
 
-abbrev pub value_in : ℕ → List Lexeme → Values
+abbrev pub value_in : ℕ → List Lexeme → Meaning
 value_in width ts = one_value width (value_of ts)
 
-abbrev pub values_of : ℕ → List Lexeme → Values
-values_of width ts = fold joined (Ok (stretch ([]) ([]))) (map (value_in width) (parted 44 ts))
-
-abbrev pub contents : Values → Meaning
-contents (Ok s) = Ok (content s.bytes s.relocations)
-contents (Err k) = Err k
+abbrev pub values_of : ℕ → List Lexeme → Meaning
+values_of width ts = fold joined (Ok (content ([]) ([]))) (map (value_in width) (parted 44 ts))
 
 -- ---- what the code gives
 
 -- what was read, or its least fault, unless memory ran out
-abbrev pub Reads : {A B : Type 0} → (A → B) → Result A Refusal → Result B AsmKind → Type 0
+abbrev pub Reads : {A : Type 0} → (A → Effect) → Result A Refusal → Meaning → Type 0
 Reads f (Ok a) m = m ≡ Ok (f a)
 Reads f (Err (refusals.Fault k)) m = m ≡ Err k
 Reads f (Err refusals.OutOfMemory) m = Unit {0}
@@ -88,11 +69,8 @@ Reads f (Err refusals.OutOfMemory) m = Unit {0}
 abbrev pub Gives : Result Action Refusal → Meaning → Type 0
 Gives r m = Reads effect_of r m
 
-abbrev pub stretch_of : Content → Stretch
-stretch_of c = stretch c.bytes (map address_relocation c.addresses.items)
-
 -- what was read stands behind the old values
-abbrev pub Adds : {A : Type 0} → Result A Refusal → Stretch → Stretch → Values → Type 0
-Adds (Ok u) old new r = joined (Ok old) r ≡ Ok new
-Adds (Err (refusals.Fault k)) old new r = r ≡ Err k
-Adds (Err refusals.OutOfMemory) old new r = Unit {0}
+abbrev pub Adds : {A : Type 0} → Result A Refusal → Effect → Effect → Meaning → Type 0
+Adds (Ok u) old new m = joined (Ok old) m ≡ Ok new
+Adds (Err (refusals.Fault k)) old new m = m ≡ Err k
+Adds (Err refusals.OutOfMemory) old new m = Unit {0}

@@ -1,18 +1,17 @@
 -- What directives do, by SPU Assembly Language: their names, one line each, and what each does with its operands. Operands
 -- that it doesn't take are A8.
-use Rattle.std.specs.Prelude.{ℕ, ◌^◌, ◌==◌, ◌&&◌, ◌||◌, Bool, true, false, nat_le, if◌then◌else◌, List, [], ◌∷◌, ◌++◌, take, find, Option, Some, None, option_map, Ok, Err, codes}
+use Rattle.std.specs.Prelude.{ℕ, ◌^◌, ◌==◌, ◌&&◌, ◌||◌, Bool, false, nat_le, if◌then◌else◌, List, [], ◌∷◌, ◌++◌, take, find, Option, Some, None, option_map, Ok, Err, codes}
 use Rattle.std.specs.List.{list_any}
 use Rattle.std.specs.Str.{bytes_eq}
 use Rattle.spu_elf.specs.declared.objects.SecKind.{SecKind}
 use Rattle.spu_elf.specs.declared.objects.SecKind.TheVariants as kinds
-use Rattle.spu_elf.specs.declared.objects.SymKind.{SymKind}
 use Rattle.spu_elf.specs.declared.objects.SymKind.TheVariants as symbols
 use Rattle.spu_text.specs.Lexemes.{Lexeme, word, number, quoted, mark}
 use Rattle.spu_asm.specs.Names.{Name, is_symbol}
 use Rattle.spu_asm.specs.Values.{value_of, natural_of, parted}
 use Rattle.spu_asm.specs.Quotes.{text_of}
 use Rattle.spu_asm.specs.Statements.{Effect, nothing, content, space, align, section, exports, may_be_common, has_kind, ends_here, has_size, common}
-use Rattle.spu_asm.specs.Contents.{Meaning, contents, values_of}
+use Rattle.spu_asm.specs.Contents.{Meaning, values_of}
 use Rattle.spu_asm.specs.declared.faults.AsmKind.TheVariants.{BadDirective}
 use Rattle.spu_asm.specs.declared.directives.Directive.{Directive}
 use Rattle.spu_asm.specs.declared.directives.Directive.TheVariants as directive
@@ -25,8 +24,8 @@ bad = Err BadDirective
 abbrev pub only_if : Bool → Effect → Meaning
 only_if b e = if b then Ok e else bad
 
-abbrev pub of_some : {A : Type 0} → (A → Effect) → Option A → Meaning
-of_some f (Some x) = Ok (f x)
+abbrev pub of_some : {A : Type 0} → (A → Meaning) → Option A → Meaning
+of_some f (Some x) = f x
 of_some f None = bad
 
 -- no operands
@@ -35,43 +34,38 @@ alone e [] = Ok e
 alone e (t ∷ ts) = bad
 
 -- `symbol`
-abbrev pub one_symbol : List Lexeme → Option Name
-one_symbol (word s ∷ []) = if is_symbol s then Some s else None
-one_symbol _ = None
-
--- `symbol,@function` or `symbol,@object`
-unfoldable pub symbol_kind : List ℕ → Option SymKind
-symbol_kind w =
-    if bytes_eq w (codes "@function") then Some symbols.Function
-    else (if bytes_eq w (codes "@object") then Some symbols.Object
-    else None)
-
-abbrev pub type_of : List Lexeme → Meaning
-type_of (word s ∷ mark c ∷ word k ∷ []) = if c == 44 && is_symbol s then of_some (has_kind s) (symbol_kind k) else bad
-type_of _ = bad
+abbrev pub one_symbol : (Name → Effect) → List Lexeme → Meaning
+one_symbol f (word s ∷ []) = only_if (is_symbol s) (f s)
+one_symbol f _ = bad
 
 -- a number from 0 on
-abbrev pub of_number : (ℕ → Meaning) → Option ℕ → Meaning
-of_number f (Some n) = f n
-of_number f None = bad
-
 abbrev pub one_number : (ℕ → Meaning) → List Lexeme → Meaning
-one_number f ts = of_number f (natural_of (value_of ts))
+one_number f ts = of_some f (natural_of (value_of ts))
+
+-- quoted text, and these bytes behind it
+abbrev pub one_text : List ℕ → List Lexeme → Meaning
+one_text end (quoted q ∷ []) = of_some (λ (t : List ℕ). Ok (content (t ++ end) ([]))) (text_of q)
+one_text end _ = bad
+
+-- a symbol, a comma, and what stands behind it
+abbrev pub of_symbol : (Name → List Lexeme → Meaning) → List Lexeme → Meaning
+of_symbol f (word s ∷ mark c ∷ ts) = if c == 44 && is_symbol s then f s ts else bad
+of_symbol f _ = bad
+
+-- `@function` or `@object`
+abbrev pub kind_by : Name → List Lexeme → Meaning
+kind_by s (word k ∷ []) =
+    if bytes_eq k (codes "@function") then Ok (has_kind s symbols.Function)
+    else only_if (bytes_eq k (codes "@object")) (has_kind s symbols.Object)
+kind_by s _ = bad
 
 -- `.-symbol`, or a number
 abbrev pub size_by : Name → List Lexeme → Meaning
 size_by s (word h ∷ mark m ∷ word t ∷ []) = only_if (m == 45 && bytes_eq h (codes ".") && bytes_eq s t) (ends_here s)
 size_by s ts = one_number (λ n. Ok (has_size s n)) ts
 
-abbrev pub size_of : List Lexeme → Meaning
-size_of (word s ∷ mark c ∷ ts) = if c == 44 && is_symbol s then size_by s ts else bad
-size_of _ = bad
-
 abbrev pub align_by : ℕ → Meaning
 align_by n = only_if (nat_le n 7) (align (2 ^ n))
-
-abbrev pub space_by : ℕ → Meaning
-space_by n = Ok (space n)
 
 unfoldable pub is_step : ℕ → Bool
 is_step a = a == 1 || a == 2 || a == 4 || a == 8 || a == 16 || a == 32 || a == 64 || a == 128
@@ -80,15 +74,6 @@ is_step a = a == 1 || a == 2 || a == 4 || a == 8 || a == 16 || a == 32 || a == 6
 abbrev pub common_by : Name → List (List Lexeme) → Meaning
 common_by s (n ∷ a ∷ []) = one_number (λ size. one_number (λ step. only_if (is_step step) (common s size step)) a) n
 common_by s _ = bad
-
-abbrev pub common_of : List Lexeme → Meaning
-common_of (word s ∷ mark c ∷ ts) = if c == 44 && is_symbol s then common_by s (parted 44 ts) else bad
-common_of _ = bad
-
--- quoted text, and these bytes behind it
-abbrev pub one_text : List ℕ → List Lexeme → Meaning
-one_text end (quoted q ∷ []) = of_some (λ (t : List ℕ). content (t ++ end) ([])) (text_of q)
-one_text end _ = bad
 
 -- ---- sections
 
@@ -101,10 +86,7 @@ kind_by_name w =
 
 -- by the letters `x` and `w`
 abbrev pub kind_by_flags : List ℕ → SecKind
-kind_by_flags f =
-    if list_any (λ c. c == 120) f then kinds.Code
-    else (if list_any (λ c. c == 119) f then kinds.Vars
-    else kinds.Const)
+kind_by_flags f = if list_any (λ c. c == 120) f then kinds.Code else (if list_any (λ c. c == 119) f then kinds.Vars else kinds.Const)
 
 -- whether `@nobits` is among the words and numbers behind the flags, each after a comma
 abbrev pub is_nobits : List Lexeme → Option Bool
@@ -114,10 +96,8 @@ is_nobits (mark c ∷ number n ∷ ts) = if c == 44 then is_nobits ts else None
 is_nobits _ = None
 
 abbrev pub flagged : Name → Option Bool → Option (List ℕ) → Meaning
-flagged s (Some true) (Some f) = Ok (section s kinds.Zero)
-flagged s (Some false) (Some f) = Ok (section s (kind_by_flags f))
-flagged s (Some b) None = bad
-flagged s None f = bad
+flagged s (Some nobits) (Some f) = Ok (section s (if nobits then kinds.Zero else kind_by_flags f))
+flagged s _ _ = bad
 
 abbrev pub section_of : List Lexeme → Meaning
 section_of (word s ∷ []) = Ok (section s (kind_by_name s))
@@ -132,28 +112,28 @@ row_of directive.Text = (codes ".text", alone (section (codes ".text") kinds.Cod
 row_of directive.Data = (codes ".data", alone (section (codes ".data") kinds.Vars))
 row_of directive.Bss = (codes ".bss", alone (section (codes ".bss") kinds.Zero))
 row_of directive.Section = (codes ".section", section_of)
-row_of directive.Global = (codes ".global", λ ts. of_some exports (one_symbol ts))
-row_of directive.Globl = (codes ".globl", λ ts. of_some exports (one_symbol ts))
-row_of directive.Type = (codes ".type", type_of)
-row_of directive.Size = (codes ".size", size_of)
+row_of directive.Global = (codes ".global", one_symbol exports)
+row_of directive.Globl = (codes ".globl", one_symbol exports)
+row_of directive.Type = (codes ".type", of_symbol kind_by)
+row_of directive.Size = (codes ".size", of_symbol size_by)
 row_of directive.Align = (codes ".align", one_number align_by)
 row_of directive.P2align = (codes ".p2align", one_number align_by)
-row_of directive.Byte = (codes ".byte", λ ts. contents (values_of 1 ts))
-row_of directive.Hword = (codes ".hword", λ ts. contents (values_of 2 ts))
-row_of directive.Short = (codes ".short", λ ts. contents (values_of 2 ts))
-row_of directive.Word = (codes ".word", λ ts. contents (values_of 4 ts))
-row_of directive.Long = (codes ".long", λ ts. contents (values_of 4 ts))
-row_of directive.Int = (codes ".int", λ ts. contents (values_of 4 ts))
-row_of directive.Quad = (codes ".quad", λ ts. contents (values_of 8 ts))
-row_of directive.Octa = (codes ".octa", λ ts. contents (values_of 16 ts))
+row_of directive.Byte = (codes ".byte", values_of 1)
+row_of directive.Hword = (codes ".hword", values_of 2)
+row_of directive.Short = (codes ".short", values_of 2)
+row_of directive.Word = (codes ".word", values_of 4)
+row_of directive.Long = (codes ".long", values_of 4)
+row_of directive.Int = (codes ".int", values_of 4)
+row_of directive.Quad = (codes ".quad", values_of 8)
+row_of directive.Octa = (codes ".octa", values_of 16)
 row_of directive.Ascii = (codes ".ascii", one_text ([]))
 row_of directive.Asciz = (codes ".asciz", one_text (0 ∷ []))
 row_of directive.String = (codes ".string", one_text (0 ∷ []))
-row_of directive.Space = (codes ".space", one_number space_by)
-row_of directive.Skip = (codes ".skip", one_number space_by)
-row_of directive.Zero = (codes ".zero", one_number space_by)
-row_of directive.Local = (codes ".local", λ ts. of_some may_be_common (one_symbol ts))
-row_of directive.Comm = (codes ".comm", common_of)
+row_of directive.Space = (codes ".space", one_number (λ n. Ok (space n)))
+row_of directive.Skip = (codes ".skip", one_number (λ n. Ok (space n)))
+row_of directive.Zero = (codes ".zero", one_number (λ n. Ok (space n)))
+row_of directive.Local = (codes ".local", one_symbol may_be_common)
+row_of directive.Comm = (codes ".comm", of_symbol (λ s ts. common_by s (parted 44 ts)))
 row_of directive.File = (codes ".file", λ ts. Ok nothing)
 row_of directive.Ident = (codes ".ident", λ ts. Ok nothing)
 

@@ -6,8 +6,6 @@ use Rattle.std.specs.Str.{bytes_eq}
 use Rattle.spu_word.specs.Bytes.{be_digits}
 use Rattle.spu_elf.specs.declared.objects.SecKind.{SecKind}
 use Rattle.spu_elf.specs.declared.objects.SecKind.TheVariants as kinds
-use Rattle.spu_elf.specs.declared.objects.SymKind.{SymKind}
-use Rattle.spu_elf.specs.declared.objects.SymKind.TheVariants as names
 use Rattle.spu_asm.specs.Statements.{Name, Relocation, moved, Effect, instruction, content, space, align, section, exports, may_be_common, has_kind, ends_here, has_size, common}
 
 -- An accepted statement: the section in which it stands, its labels, what it does, and the bytes that it adds.
@@ -26,6 +24,18 @@ same a b = bytes_eq a b
 abbrev pub is_among : List Name → Name → Bool
 is_among [] n = false
 is_among (m ∷ ms) n = same n m || is_among ms n
+
+-- one at the end, where there is none of its name yet
+abbrev pub added : {X : Type 0} → (X → Name) → List X → X → List X
+added key [] x = x ∷ []
+added key (y ∷ ys) x = if same (key x) (key y) then y ∷ ys else y ∷ added key ys x
+
+abbrev pub added_all : {X : Type 0} → (X → Name) → List X → List X → List X
+added_all key ys [] = ys
+added_all key ys (x ∷ xs) = added_all key (added key ys x) xs
+
+abbrev pub itself : Name → Name
+itself n = n
 
 -- ---- sections
 
@@ -56,6 +66,9 @@ pub record Heading : Type 0 where
   pub name : Name
   pub kind : SecKind
 
+abbrev pub heading_name : Heading → Name
+heading_name x = x.name
+
 abbrev pub heading : Name → SecKind → Heading
 heading name kind = record { name = name; kind = kind }
 
@@ -69,24 +82,18 @@ needs home (section n k) = heading n k ∷ []
 needs home (common n size step) = heading (codes ".bss") kinds.Zero ∷ []
 needs home _ = []
 
--- so does a label
+-- so do labels
+abbrev pub label_needs : Name → List Name → List Heading
+label_needs home [] = []
+label_needs home (l ∷ ls) = heading home kinds.Code ∷ []
+
 abbrev pub needed : Name → List Name → Effect → List Heading
-needed home [] e = needs home e
-needed home (l ∷ ls) e = heading home kinds.Code ∷ needs home e
-
--- a section at the end, where there is none of its name yet
-abbrev pub opened : List Heading → Heading → List Heading
-opened [] x = x ∷ []
-opened (y ∷ ys) x = if same x.name y.name then y ∷ ys else y ∷ opened ys x
-
-abbrev pub opened_all : List Heading → List Heading → List Heading
-opened_all ys [] = ys
-opened_all ys (x ∷ xs) = opened_all (opened ys x) xs
+needed home ls e = label_needs home ls ++ needs home e
 
 -- the sections, each where it was first needed, with the kind that it had there
 abbrev pub headings : History → List Heading
 headings [] = []
-headings (e ∷ h) = opened_all (headings h) (needed e.home e.labels e.effect)
+headings (e ∷ h) = added_all heading_name (headings h) (needed e.home e.labels e.effect)
 
 -- the alignment that an effect asks of the section that it adds to, or 0
 abbrev pub asked : Effect → ℕ
@@ -131,56 +138,15 @@ pub record Spot : Type 0 where
   pub section : Name
   pub offset : ℕ
 
--- where a common symbol stands, behind the padding
-abbrev pub common_spot : History → ℕ → Spot
-common_spot h step = record { section = codes ".bss"; offset = size_in (codes ".bss") h + gap step (size_in (codes ".bss") h) }
-
--- where an effect puts a symbol
-abbrev pub put_by : History → Effect → Name → Option Spot
-put_by h (common m size step) n = if same n m then Some (common_spot h step) else None
-put_by h _ n = None
-
-abbrev pub or_else : Option Spot → Option Spot → Option Spot
-or_else None other = other
-or_else (Some s) other = Some s
-
--- a label stands behind all that its section has before it
-abbrev pub spot_of : History → Name → Option Spot
-spot_of [] n = None
-spot_of (e ∷ h) n = or_else (put_by h e.effect n) (if is_among e.labels n then Some (record { section = e.home; offset = size_in e.home h }) else spot_of h n)
-
-abbrev pub exported_by : Effect → Name → Bool
-exported_by (exports m) n = same n m
-exported_by _ n = false
-
-abbrev pub is_exported : History → Name → Bool
-is_exported [] n = false
-is_exported (e ∷ h) n = exported_by e.effect n || is_exported h n
-
-abbrev pub kind_by : Effect → Name → SymKind → SymKind
-kind_by (has_kind m k) n before = if same n m then k else before
-kind_by _ n before = before
-
--- the kind that a symbol was last given
-abbrev pub kind_in : History → Name → SymKind
-kind_in [] n = names.Plain
-kind_in (e ∷ h) n = kind_by e.effect n (kind_in h n)
+-- where a common symbol stands, behind the padding at the end of `.bss`
+abbrev pub common_spot : Effect → ℕ → Spot
+common_spot (common n size step) end = record { section = codes ".bss"; offset = end + gap step end }
+common_spot _ end = record { section = codes ".bss"; offset = 0 }
 
 -- how far a symbol reaches, from its label to this place
 abbrev pub reach : Option Spot → ℕ → ℕ
 reach None at = 0
 reach (Some s) at = at - s.offset
-
-abbrev pub size_by : Effect → Name → Option Spot → ℕ → ℕ → ℕ
-size_by (ends_here m) n spot at before = if same n m then reach spot at else before
-size_by (has_size m size) n spot at before = if same n m then size else before
-size_by (common m size step) n spot at before = if same n m then size else before
-size_by _ n spot at before = before
-
--- the size that a symbol was last given
-abbrev pub symbol_size : History → Name → ℕ
-symbol_size [] n = 0
-symbol_size (e ∷ h) n = size_by e.effect n (spot_of (e ∷ h) n) (size_in e.home h) (symbol_size h n)
 
 -- the symbols that an effect names, in order
 abbrev pub relocation_names : List Relocation → List Name
@@ -197,19 +163,10 @@ named_by (has_size n size) = n ∷ []
 named_by (common n size step) = n ∷ []
 named_by _ = []
 
--- the name at the end, where it isn't there yet
-abbrev pub seen : List Name → Name → List Name
-seen [] n = n ∷ []
-seen (m ∷ ms) n = if same n m then m ∷ ms else m ∷ seen ms n
-
-abbrev pub seen_all : List Name → List Name → List Name
-seen_all ms [] = ms
-seen_all ms (n ∷ ns) = seen_all (seen ms n) ns
-
 -- labels and named symbols, each where it was first seen
 abbrev pub symbol_names : History → List Name
 symbol_names [] = []
-symbol_names (e ∷ h) = seen_all (seen_all (symbol_names h) e.labels) (named_by e.effect)
+symbol_names (e ∷ h) = added_all itself (added_all itself (symbol_names h) e.labels) (named_by e.effect)
 
 abbrev pub allowed_by : Effect → List Name
 allowed_by (may_be_common n) = n ∷ []
@@ -218,7 +175,7 @@ allowed_by _ = []
 -- the names that `.comm` may take
 abbrev pub local_names : History → List Name
 local_names [] = []
-local_names (e ∷ h) = seen_all (local_names h) (allowed_by e.effect)
+local_names (e ∷ h) = added_all itself (local_names h) (allowed_by e.effect)
 
 -- ---- relocations
 

@@ -1,4 +1,3 @@
-pub mod Numerals
 pub mod Names
 pub mod Values
 pub mod Parts

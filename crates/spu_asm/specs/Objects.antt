@@ -1,5 +1,5 @@
 -- The object of a history: its sections, its symbols, locals before globals, and its relocations.
-use Rattle.std.specs.Prelude.{ℕ, ◌+◌, ◌||◌, Bool, not, List, [], ◌∷◌, ◌++◌, map, filter, Option, Some, None, is_none}
+use Rattle.std.specs.Prelude.{ℕ, ◌+◌, ◌||◌, Bool, true, false, not, List, [], ◌∷◌, ◌++◌, map, filter, Option, Some, None, is_none}
 use Rattle.spu_elf.specs.declared.objects.Object.{Object}
 use Rattle.spu_elf.specs.declared.objects.Section.{Section}
 use Rattle.spu_elf.specs.declared.objects.Symbol.{Symbol}
@@ -22,12 +22,17 @@ section_at e = record { name = e.0; kind = e.1.kind; align = e.1.align; size = e
 abbrev pub is_global_at : Name × Sighting → Bool
 is_global_at e = e.1.exported || is_none e.1.spot
 
-abbrev pub is_local_at : Name × Sighting → Bool
-is_local_at e = not (is_global_at e)
+abbrev pub is_chosen : Bool → Name × Sighting → Bool
+is_chosen true e = is_global_at e
+is_chosen false e = not (is_global_at e)
+
+-- the symbols that are global, or those that aren't
+abbrev pub chosen : Bool → Rows Sighting → Rows Sighting
+chosen global t = filter (is_chosen global) t
 
 -- locals, then globals
 abbrev pub ordered_at : Rows Sighting → Rows Sighting
-ordered_at t = filter is_local_at t ++ filter is_global_at t
+ordered_at t = chosen false t ++ chosen true t
 
 abbrev pub place_at : Rows Draft → Option Spot → SymPlace
 place_at t None = places.Undefined

@@ -1,6 +1,7 @@
 -- The operands of instructions, by SPU ISA 1.2: the registers of an operation's layout in the order rt, ra, rb, rc, those
 -- that its row gives as zero left out, then its immediate operand; some operations have operands of their own.
-use Rattle.std.specs.Prelude.{ℕ, ◌+◌, ◌-◌, ◌*◌, ◌/◌, ◌%◌, ◌^◌, ◌==◌, ◌&&◌, ◌||◌, Bool, true, false, nat_le, nat_lt, if◌then◌else◌, List, [], ◌∷◌, ◌++◌, length, take, drop, fold, Option, Some, None, option_map, Result, Ok, Err, codes, ℤ, pos, neg_ℤ, ◌-ℤ◌}
+use Rattle.std.specs.Prelude.{ℕ, ◌+◌, ◌-◌, ◌*◌, ◌/◌, ◌%◌, ◌^◌, ◌==◌, ◌&&◌, Bool, true, false, nat_le, nat_lt, if◌then◌else◌, List, [], ◌∷◌, ◌++◌, length, take, drop, fold, Option, Some, None, option_map, Result, Ok, Err, codes, ℤ, pos, neg_ℤ, ◌-ℤ◌}
+use Rattle.std.specs.List.{list_any}
 use Rattle.std.specs.Borrow.{Bor}
 use Rattle.spu_text.specs.Lexemes.{Lexeme, word, mark}
 use Rattle.spu_isa.specs.declared.operation.Op.{Op}
@@ -57,39 +58,24 @@ rt = slot.Register field.Rt
 abbrev pub ra : Slot
 ra = slot.Register field.Ra
 
-abbrev pub is_rt : Register → Bool
-is_rt Rt = true
-is_rt _ = false
+abbrev pub is_field : Field → Register → Bool
+is_field field.Rt Rt = true
+is_field field.Ra Ra = true
+is_field field.Rb Rb = true
+is_field _ _ = false
 
-abbrev pub is_ra : Register → Bool
-is_ra Ra = true
-is_ra _ = false
-
-abbrev pub is_rb : Register → Bool
-is_rb Rb = true
-is_rb _ = false
-
-abbrev pub has : (Register → Bool) → List Register → Bool
-has is [] = false
-has is (r ∷ rs) = is r || has is rs
-
--- a register, unless the row gives it as zero
-abbrev pub unless_zero : Row → (Register → Bool) → Slot → List Slot
-unless_zero r is s = if has is r.zero_fields then [] else s ∷ []
+-- those of these registers that the row doesn't give as zero
+abbrev pub registers : Row → List Field → List Slot
+registers r [] = []
+registers r (f ∷ fs) = if list_any (is_field f) r.zero_fields then registers r fs else slot.Register f ∷ registers r fs
 
 abbrev pub by_layout : Layout → Row → List Slot
-by_layout Rr r = unless_zero r is_rt rt ++ unless_zero r is_ra ra ++ unless_zero r is_rb (slot.Register field.Rb)
-by_layout Rrr r = rt ∷ ra ∷ slot.Register field.Rb ∷ slot.Register field.Rc ∷ []
+by_layout Rr r = registers r (field.Rt ∷ field.Ra ∷ field.Rb ∷ [])
+by_layout Rrr r = registers r (field.Rt ∷ field.Ra ∷ field.Rb ∷ field.Rc ∷ [])
 by_layout Ri7 r = rt ∷ ra ∷ slot.Number range.SevenBits ∷ []
 by_layout Ri10 r = rt ∷ ra ∷ slot.Number range.TenBits ∷ []
-by_layout Ri16 r = unless_zero r is_rt rt ++ slot.Relative ∷ []
+by_layout Ri16 r = registers r (field.Rt ∷ []) ++ slot.Relative ∷ []
 by_layout _ r = []
-
-abbrev pub insertion : List Slot
-insertion = rt ∷ slot.Memory range.Insertion ∷ []
-
-abbrev pub displacement : List Slot
-displacement = rt ∷ slot.Memory range.Displacement ∷ []
 
 -- the operands of an operation, all of them
 abbrev pub slots_of : Op → List Slot
@@ -101,12 +87,12 @@ slots_of op.Wrch = slot.Channel ∷ rt ∷ []
 slots_of op.Hbr = slot.Place ∷ ra ∷ []
 slots_of op.Hbra = slot.Place ∷ slot.Address range.SignedHalf ∷ []
 slots_of op.Hbrr = slot.Place ∷ slot.Address range.SignedHalf ∷ []
-slots_of op.Lqd = displacement
-slots_of op.Stqd = displacement
-slots_of op.Cbd = insertion
-slots_of op.Chd = insertion
-slots_of op.Cwd = insertion
-slots_of op.Cdd = insertion
+slots_of op.Lqd = rt ∷ slot.Memory range.Displacement ∷ []
+slots_of op.Stqd = rt ∷ slot.Memory range.Displacement ∷ []
+slots_of op.Cbd = rt ∷ slot.Memory range.Insertion ∷ []
+slots_of op.Chd = rt ∷ slot.Memory range.Insertion ∷ []
+slots_of op.Cwd = rt ∷ slot.Memory range.Insertion ∷ []
+slots_of op.Cdd = rt ∷ slot.Memory range.Insertion ∷ []
 slots_of op.Bra = slot.Address range.WordAddress ∷ []
 slots_of op.Brasl = rt ∷ slot.Address range.WordAddress ∷ []
 slots_of op.Lqa = rt ∷ slot.Address range.WordAddress ∷ []
@@ -192,47 +178,29 @@ suffix_of _ = []
 abbrev pub refers : Op → Name → Offset → Given
 refers o w n = or_bad (λ (s : Name). or_far (λ (a : ℤ). target (record { name = s; addend = a })) (addend_of n)) (without_suffix (suffix_of (kind_on o)) w)
 
-abbrev pub number_given : Range → Option Value → Given
-number_given b (Some (plain n)) = or_far immediate (signed_number b n)
-number_given b _ = bad
-
--- `.` and a distance, or a symbol
-abbrev pub relative_given : Op → Option Value → Given
-relative_given o (Some (here n)) = or_far immediate (signed_number range.WordDistance n)
-relative_given o (Some (symbol w n)) = refers o w n
-relative_given o _ = bad
-
--- a number, or a symbol
-abbrev pub address_given : Op → Range → Option Value → Given
-address_given o b (Some (plain n)) = or_far immediate (signed_number b n)
-address_given o b (Some (symbol w n)) = refers o w n
-address_given o b _ = bad
+abbrev pub in_range : Range → Offset → Given
+in_range b n = or_far immediate (signed_number b n)
 
 -- a number from 0 to 127
 abbrev pub below_128 : Field → ℕ → Given
 below_128 f n = if nat_lt n 128 then register f n else far
 
-abbrev pub small_given : Field → Option Value → Given
-small_given f (Some (plain n)) = or_far (below_128 f) (natural n)
-small_given f _ = bad
+abbrev pub small_given : Field → Offset → Given
+small_given f n = or_far (below_128 f) (natural n)
 
--- a number of words, or a symbol, whose addend has no effect
-abbrev pub place_given : Option Value → Given
-place_given (Some (plain n)) = or_far (λ (k : ℕ). nine_bits (k / 128) (k % 128)) (place_field n)
-place_given (Some (symbol w n)) = or_far (λ (a : ℤ). place_symbol w) (addend_of n)
-place_given _ = bad
-
-abbrev pub register_given : Field → List Lexeme → Given
-register_given f (word w ∷ []) = or_bad (register f) (register_of w)
-register_given f _ = bad
-
-abbrev pub register_number_given : List Lexeme → Given
-register_number_given (word w ∷ []) = or_bad (register field.Rt) (register_of w)
-register_number_given ts = small_given field.Rt (value_of ts)
-
-abbrev pub channel_given : List Lexeme → Given
-channel_given (word w ∷ []) = or_bad (register field.Ra) (channel_of w)
-channel_given ts = small_given field.Ra (value_of ts)
+-- what a value gives: a number, `.` and a distance, or a symbol; the addend of a hint's place has no effect
+abbrev pub value_given : Op → Slot → Option Value → Given
+value_given o slot.RegisterNumber (Some (plain n)) = small_given field.Rt n
+value_given o slot.Channel (Some (plain n)) = small_given field.Ra n
+value_given o (slot.Number b) (Some (plain n)) = in_range b n
+value_given o (slot.Memory b) (Some (plain n)) = in_range b n
+value_given o (slot.Address b) (Some (plain n)) = in_range b n
+value_given o (slot.Address b) (Some (symbol w n)) = refers o w n
+value_given o slot.Relative (Some (here n)) = in_range range.WordDistance n
+value_given o slot.Relative (Some (symbol w n)) = refers o w n
+value_given o slot.Place (Some (plain n)) = or_far (λ (k : ℕ). nine_bits (k / 128) (k % 128)) (place_field n)
+value_given o slot.Place (Some (symbol w n)) = or_far (λ (a : ℤ). place_symbol w) (addend_of n)
+value_given o _ _ = bad
 
 -- `(register)`
 abbrev pub base_given : List Lexeme → Given
@@ -240,21 +208,17 @@ base_given (mark m ∷ word w ∷ mark n ∷ []) = if m == 40 && n == 41 then or
 base_given _ = bad
 
 abbrev pub given : Op → Slot → List Lexeme → List Given
-given o (slot.Register f) ts = register_given f ts ∷ []
-given o slot.RegisterNumber ts = register_number_given ts ∷ []
-given o slot.Channel ts = channel_given ts ∷ []
-given o (slot.Number b) ts = number_given b (value_of ts) ∷ []
-given o slot.Relative ts = relative_given o (value_of ts) ∷ []
-given o (slot.Address b) ts = address_given o b (value_of ts) ∷ []
+given o (slot.Register f) (word w ∷ []) = or_bad (register f) (register_of w) ∷ []
+given o slot.RegisterNumber (word w ∷ []) = or_bad (register field.Rt) (register_of w) ∷ []
+given o slot.Channel (word w ∷ []) = or_bad (register field.Ra) (channel_of w) ∷ []
 -- the last three lexemes are the register
-given o (slot.Memory b) ts = number_given b (value_of (take (length ts - 3) ts)) ∷ base_given (drop (length ts - 3) ts) ∷ []
-given o slot.Place ts = place_given (value_of ts) ∷ []
+given o (slot.Memory b) ts = value_given o (slot.Memory b) (value_of (take (length ts - 3) ts)) ∷ base_given (drop (length ts - 3) ts) ∷ []
+given o s ts = value_given o s (value_of ts) ∷ []
 
 abbrev pub all_given : Op → List Slot → List (List Lexeme) → List Given
 all_given o [] [] = []
-all_given o [] (t ∷ ts) = bad ∷ []
-all_given o (s ∷ ss) [] = bad ∷ []
 all_given o (s ∷ ss) (t ∷ ts) = given o s t ++ all_given o ss ts
+all_given o _ _ = bad ∷ []
 
 -- ---- the instruction
 
@@ -274,22 +238,15 @@ abbrev pub Reading : Type 0
 Reading = Result Coded AsmKind
 
 -- a number outside its range is noted, and reading goes on
-abbrev pub outside : Reading → Reading
-outside (Ok c) = Err asm.Range
-outside (Err k) = Err k
-
-abbrev pub changed : (Coded → Coded) → Reading → Reading
-changed f (Ok c) = Ok (f c)
-changed f (Err k) = Err k
-
 abbrev pub read : Reading → Given → Reading
 read r bad = Err asm.BadOperand
-read r far = outside r
-read r (register f n) = changed (λ c. record c { inst = with_field f n c.inst }) r
-read r (immediate n) = changed (λ c. record c { inst = record c.inst { imm = n } }) r
-read r (nine_bits high low) = changed (λ c. record c { inst = record c.inst { rb = high; rt = low } }) r
-read r (place_symbol w) = changed (λ c. record c { place = Some w }) r
-read r (target t) = changed (λ c. record c { target = Some t }) r
+read (Err k) g = Err k
+read (Ok c) far = Err asm.Range
+read (Ok c) (register f n) = Ok (record c { inst = with_field f n c.inst })
+read (Ok c) (immediate n) = Ok (record c { inst = record c.inst { imm = n } })
+read (Ok c) (nine_bits high low) = Ok (record c { inst = record c.inst { rb = high; rt = low } })
+read (Ok c) (place_symbol w) = Ok (record c { place = Some w })
+read (Ok c) (target t) = Ok (record c { target = Some t })
 
 abbrev pub blank : Op → Coded
 blank o = record { inst = record { op = o; rt = 0; ra = 0; rb = 0; rc = 0; imm = pos 0 }; place = None; target = None }

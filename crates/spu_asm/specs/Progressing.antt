@@ -2,10 +2,10 @@
 use Rattle.std.specs.Prelude.{◌≡◌, [], ◌∷◌, Some, None, option_map}
 use Rattle.spu_elf.specs.Validity.{IsValid}
 use Rattle.spu_asm.specs.Statements.{Name}
-use Rattle.spu_asm.specs.Histories.{History, spot_of, symbol_size}
+use Rattle.spu_asm.specs.Histories.{History}
 use Rattle.spu_asm.specs.Faults.{Fault, Run, first_fault}
 use Rattle.spu_asm.specs.Objects.{object_of}
-use Rattle.spu_asm.specs.Summaries.{summary, enter}
+use Rattle.spu_asm.specs.Summaries.{sighting_in, summary, enter}
 use Rattle.spu_asm.specs.Cursors.{cursor_of}
 use Rattle.spu_asm.specs.declared.progress.LineFault.{LineFault}
 use Rattle.spu_asm.specs.declared.progress.Progress.{Progress}
@@ -17,7 +17,7 @@ fault_of f = record { line = f.line; kind = f.kind }
 
 -- only a symbol that stands somewhere has a size
 abbrev pub IsSizedHistory : History → Type 0
-IsSizedHistory h = (n : Name) → spot_of h n ≡ None → symbol_size h n ≡ 0
+IsSizedHistory h = (n : Name) → (sighting_in h n).spot ≡ None → (sighting_in h n).size ≡ 0
 
 -- each entry is what its statement makes behind those before it
 abbrev pub IsMade : History → Type 0
@@ -35,9 +35,3 @@ abbrev pub Finishes : Run → Outcome → Type 0
 Finishes r (outcomes.Faulty f) = first_fault r.faults ≡ Some (fault_of f)
 Finishes r (outcomes.Object o) = (r.faults ≡ []) × (o ≡ object_of r.history)
 Finishes r outcomes.NoFile = (r.faults ≡ []) × (IsValid (object_of r.history) → ⊥)
-
--- the code has taken so much of a text that the rest leads to what the text comes to
-pub record Leads (r : Run) (f : Run → Run) (p : Progress) : Type 0 where
-  pub now : Run
-  pub taken : InRun now p
-  pub leads : f now ≡ r

@@ -1,6 +1,6 @@
 -- Quoted text, by SPU Assembly Language: `\n`, `\t`, `\r`, `\b`, `\f`, `\\`, `\"`, and `\` with one to three octal digits, as
 -- many as stand there, whose value is taken modulo 256. Nothing else stands behind `\`.
-use Rattle.std.specs.Prelude.{ℕ, zero, suc, ◌-◌, ◌%◌, ◌==◌, ◌&&◌, Bool, nat_le, if◌then◌else◌, List, [], ◌∷◌, length, take, drop, max, slice_index, Option, Some, None}
+use Rattle.std.specs.Prelude.{ℕ, zero, suc, ◌-◌, ◌%◌, ◌==◌, ◌&&◌, Bool, nat_le, if◌then◌else◌, List, [], ◌∷◌, length, take, drop, slice_index, Option, Some, None, option_map, option_and_then}
 use Rattle.std.specs.List.{prefix_len}
 use Rattle.std.specs.Str.Parse.{digits_value}
 
@@ -23,39 +23,22 @@ letter_of c =
 abbrev pub octal_len : List ℕ → ℕ
 octal_len bs = prefix_len is_octal (take 3 bs)
 
--- the byte that they write
-abbrev pub octal_byte : List ℕ → ℕ
-octal_byte bs = digits_value 8 (take (octal_len bs) bs) % 256
+-- the byte for which stands what is behind a `\`, and how many bytes that is
+unfoldable pub escape : List ℕ → Option (ℕ × ℕ)
+escape bs =
+    if octal_len bs == 0 then option_map (λ (b : ℕ). (b, 1)) (letter_of (slice_index bs 0))
+    else Some (digits_value 8 (take (octal_len bs) bs) % 256, octal_len bs)
 
--- the byte for which stands what is behind a `\`
-unfoldable pub escaped : List ℕ → Option ℕ
-escaped bs = if octal_len bs == 0 then letter_of (slice_index bs 0) else Some (octal_byte bs)
+-- the byte for which the front stands, and how many bytes behind it belong to it
+unfoldable pub front : ℕ → List ℕ → Option (ℕ × ℕ)
+front b bs = if b == 92 then escape bs else Some (b, 0)
 
--- how many bytes that is
-unfoldable pub escape_len : List ℕ → ℕ
-escape_len bs = max 1 (octal_len bs)
-
-abbrev pub onto : Option ℕ → Option (List ℕ) → Option (List ℕ)
-onto (Some b) (Some bs) = Some (b ∷ bs)
-onto (Some b) None = None
-onto None bs = None
-
--- the byte for which the front stands, and how many bytes that is
-unfoldable pub front_byte : ℕ → List ℕ → Option ℕ
-front_byte b bs = if b == 92 then escaped bs else Some b
-
-unfoldable pub front_len : ℕ → List ℕ → ℕ
-front_len b bs = if b == 92 then escape_len bs else 0
-
--- The bytes for which these stand, the first `inside` of which belong to the escape before.
+-- The bytes for which these stand, the first `inside` of which belong to the escape before; nothing where one isn't known.
 abbrev pub unescaped : ℕ → List ℕ → Option (List ℕ)
 unescaped inside [] = Some ([])
 unescaped (suc inside) (b ∷ bs) = unescaped inside bs
-unescaped zero (b ∷ bs) = onto (front_byte b bs) (unescaped (front_len b bs) bs)
+unescaped zero (b ∷ bs) = option_and_then (λ (x : ℕ × ℕ). option_map (λ (more : List ℕ). x.0 ∷ more) (unescaped x.1 bs)) (front b bs)
 
-abbrev pub inside_quotes : List ℕ → List ℕ
-inside_quotes quoted = take (length quoted - 2) (drop 1 quoted)
-
--- the bytes of quoted text, which has its quotes; nothing where it has an escape that isn't known
+-- the bytes of quoted text, which has its quotes
 unfoldable pub text_of : List ℕ → Option (List ℕ)
-text_of quoted = unescaped 0 (inside_quotes quoted)
+text_of quoted = unescaped 0 (take (length quoted - 2) (drop 1 quoted))

@@ -1,12 +1,13 @@
 -- What statements come to: the section that goes on, the sections and the symbols by name, each where it was first needed or
 -- seen, and the names that may be common.
-use Rattle.std.specs.Prelude.{ℕ, Bool, List, map, Option, Some, None, codes}
+use Rattle.std.specs.Prelude.{ℕ, Bool, true, false, if◌then◌else◌, List, [], ◌∷◌, map, Option, Some, None, option_map, option_and_then, unwrap_or, codes}
 use Rattle.spu_elf.specs.declared.objects.SecKind.{SecKind}
 use Rattle.spu_elf.specs.declared.objects.SecKind.TheVariants as kinds
 use Rattle.spu_elf.specs.declared.objects.SymKind.{SymKind}
-use Rattle.spu_asm.specs.Statements.{Name, Relocation, Effect, common}
+use Rattle.spu_elf.specs.declared.objects.SymKind.TheVariants as names
+use Rattle.spu_asm.specs.Statements.{Name, Relocation, Effect, exports, has_kind, ends_here, has_size, common}
 use Rattle.spu_asm.specs.Histories
-use Rattle.spu_asm.specs.Histories.{History, Entry, Heading, Spot, stored, added_bytes, target_of, headings, align_in, size_in, bytes_in, relocations_in, spot_of, is_exported, kind_in, symbol_size, symbol_names, local_names}
+use Rattle.spu_asm.specs.Histories.{History, Entry, Heading, heading_name, itself, Spot, is_among, stored, added_bytes, target_of, headings, align_in, size_in, bytes_in, relocations_in, common_spot, reach, named_by, symbol_names, local_names}
 use Rattle.spu_asm.specs.Tables.{Rows, value_in}
 
 -- A section so far: a Zero section has a size and no bytes.
@@ -35,18 +36,35 @@ pub record Cursor : Type 0 where
 abbrev pub draft_in : History → Heading → Draft
 draft_in h x = record { kind = x.kind; align = align_in x.name h; size = size_in x.name h; bytes = stored x.kind (bytes_in x.name h); relocations = relocations_in x.name h }
 
+abbrev pub unseen : Sighting
+unseen = record { spot = None; exported = false; kind = names.Plain; size = 0 }
+
+abbrev pub placed : Spot → Sighting → Sighting
+placed at s = record s { spot = Some at }
+
+-- what an effect tells of the symbols that it names, where the next byte stands there, and a common symbol there
+abbrev pub told_of : Effect → ℕ → Spot → Sighting → Sighting
+told_of (exports n) at spot s = record s { exported = true }
+told_of (has_kind n k) at spot s = record s { kind = k }
+told_of (ends_here n) at spot s = record s { size = reach s.spot at }
+told_of (has_size n size) at spot s = record s { size = size }
+told_of (common n size step) at spot s = record s { spot = Some spot; size = size }
+told_of _ at spot s = s
+
+-- changed, where the name is among these
+abbrev pub amended : List Name → Name → (Sighting → Sighting) → Sighting → Sighting
+amended ms n f s = if is_among ms n then f s else s
+
+-- A label stands behind all that its section has before it; then the effect tells of the symbols that it names.
 abbrev pub sighting_in : History → Name → Sighting
-sighting_in h n = record { spot = spot_of h n; exported = is_exported h n; kind = kind_in h n; size = symbol_size h n }
+sighting_in [] n = unseen
+sighting_in (e ∷ h) n =
+    amended (named_by e.effect) n (told_of e.effect (size_in e.home h) (common_spot e.effect (size_in (codes ".bss") h)))
+    (amended e.labels n (placed (record { section = e.home; offset = size_in e.home h })) (sighting_in h n))
 
 -- the rows of a function over keys
 abbrev pub tabled : {X T : Type 0} → (X → Name) → (X → T) → List X → Rows T
 tabled key f xs = map (λ x. (key x, f x)) xs
-
-abbrev pub heading_name : Heading → Name
-heading_name x = x.name
-
-abbrev pub itself : Name → Name
-itself n = n
 
 abbrev pub summary : History → Cursor
 summary h = record {
@@ -58,26 +76,14 @@ summary h = record {
 
 -- ---- look-ups
 
-abbrev pub draft_kind : Option Draft → Option SecKind
-draft_kind None = None
-draft_kind (Some d) = Some d.kind
-
-abbrev pub draft_size : Option Draft → ℕ
-draft_size None = 0
-draft_size (Some d) = d.size
-
 abbrev pub kind_at : Rows Draft → Name → SecKind → SecKind
-kind_at t n k = elim (draft_kind (value_in t n)) [ Some j ↦ j | None ↦ k ]
+kind_at t n k = unwrap_or (option_map (λ (d : Draft). d.kind) (value_in t n)) k
 
 abbrev pub size_at : Rows Draft → Name → ℕ
-size_at t n = draft_size (value_in t n)
-
-abbrev pub sighting_spot : Option Sighting → Option Spot
-sighting_spot None = None
-sighting_spot (Some s) = s.spot
+size_at t n = unwrap_or (option_map (λ (d : Draft). d.size) (value_in t n)) 0
 
 abbrev pub spot_at : Rows Sighting → Name → Option Spot
-spot_at t n = sighting_spot (value_in t n)
+spot_at t n = option_and_then (λ (s : Sighting). s.spot) (value_in t n)
 
 -- ---- the next statement
 

@@ -1,7 +1,7 @@
 -- Values by name, in the order in which the names came.
 use Rattle.std.specs.Prelude.{◌≡◌, ℕ, ◌+◌, false, if◌then◌else◌, List, [], ◌∷◌, map, position, Option, Some, None}
 use Rattle.spu_asm.specs.Statements.{Name}
-use Rattle.spu_asm.specs.Histories.{same, is_among}
+use Rattle.spu_asm.specs.Histories.{same, is_among, added}
 use Rattle.spu_asm.specs.declared.tables.Table.{Table}
 
 abbrev pub Rows : Type 0 → Type 0
@@ -23,8 +23,7 @@ with_values g t = map (λ e. (e.0, g e.1)) t
 
 -- a row at the end, where there is none of its name
 abbrev pub opened : {T : Type 0} → Rows T → Name → T → Rows T
-opened [] n v = (n, v) ∷ []
-opened (e ∷ es) n v = if same n e.0 then e ∷ es else e ∷ opened es n v
+opened {T} t n v = added (λ (e : Name × T). e.0) t (n, v)
 
 -- the value of the name is changed
 abbrev pub edited : {T : Type 0} → Rows T → Name → (T → T) → Rows T

@@ -1,13 +1,13 @@
 //! Sections and symbols as statement after statement is accepted.
 
-ghost use Rattle.std.specs.Prelude.{◌≡◌, ℕ, ◌+◌, ◌<◌, ◌^◌, is_some, true, false, not, nat_lt, length, map, codes, OnOk, IfSome, MatchOption, None, Some, option_map};
+ghost use Rattle.std.specs.Prelude.{◌≡◌, ◌+◌, ◌<◌, ◌^◌, is_some, true, false, nat_lt, [], length, map, codes, OnOk, IfSome, MatchOption, None, Some};
 ghost use Rattle.spu_elf.specs.declared.objects.SecKind.TheVariants as kinds;
 ghost use Rattle.spu_asm.specs.Statements.{stmt_of, effect_of, result_of};
-ghost use Rattle.spu_asm.specs.Histories.{gap, added_bytes, needs, target_of, home_after, is_among};
+ghost use Rattle.spu_asm.specs.Histories.{gap, common_spot, added_bytes, needs, target_of, home_after, is_among};
 ghost use Rattle.spu_asm.specs.Tables.{value_in};
-ghost use Rattle.spu_asm.specs.Summaries.{kind_at, size_at, spot_at, kind_here, target_kind_at, target_place_at};
-ghost use Rattle.spu_asm.specs.Faults.{lesser, when_, number_of, is_code, is_zero, is_misplaced, is_in, clashes_at, clashes_by_at, is_here_at, is_against_rules_at, is_too_large_at, effect_fault_at, read_fault_at, fault_at};
-ghost use Rattle.spu_asm.specs.Cursors.{Fits, opened_headings, spot_of_code, begun, label_needs, with_labels, common_at, local_by, obeyed_in, obeyed, accepted_at, cursor_of, taken_at};
+ghost use Rattle.spu_asm.specs.Summaries.{summary, kind_at, size_at, spot_at, kind_here, target_kind_at, target_place_at};
+ghost use Rattle.spu_asm.specs.Faults.{lesser, when_, number_of, is_code, is_zero, is_misplaced, is_in, clashes_at, clashes_by_at, is_against_rules_at, is_too_large_at, effect_fault_at, read_fault_at, fault_at};
+ghost use Rattle.spu_asm.specs.Cursors.{Fits, opened_headings, spot_of_code, with_labels, local_by, obeyed_in, obeyed, accepted_at, cursor_of, taken_at};
 
 use crate::faults::AsmKind;
 use crate::sections::{SectionDraft, gap, padding};
@@ -157,7 +157,7 @@ fn passes(at: u32, more: Option<u128>) -> bool
 impl<'a> Assembler<'a> {
     /// No statement yet.
     pub fn new(alloc: Global) -> Assembler<'a>
-        ensures { cursor_of result ≡ begun }
+        ensures { cursor_of result ≡ summary [] }
     {
         Assembler {
             alloc,
@@ -390,8 +390,8 @@ impl<'a> Assembler<'a> {
     /// Where the symbol of `.comm` stands, behind the padding.
     #[tactic(auto, unfolding(crate::specs::Statements::effect_of))]
     fn common_spot(&self, action: &Action) -> Spot<'a>
-        requires { (common_at (effect_of action.now) (cursor_of self.now).sections).offset < 2 ^ 32 }
-        ensures { spot_of_code result ≡ common_at (effect_of action.now) (cursor_of self.now).sections }
+        requires { (common_spot (effect_of action.now) (size_at (cursor_of self.now).sections (codes ".bss"))).offset < 2 ^ 32 }
+        ensures { spot_of_code result ≡ common_spot (effect_of action.now) (size_at (cursor_of self.now).sections (codes ".bss")) }
     {
         let offset = match action {
             Action::Common { align, .. } => {

@@ -6,7 +6,8 @@ ghost use Rattle.std.specs.Int.{bytes_high_first};
 ghost use Rattle.spu_asm.specs.Parts.{lexemes, parts_left};
 ghost use Rattle.spu_asm.specs.Values;
 ghost use Rattle.spu_asm.specs.Values.{value_of};
-ghost use Rattle.spu_asm.specs.Contents.{fits, complement, address_value, number_value, one_value, is_far, joined, value_in, values_of, stretch_of, Adds, Reads};
+ghost use Rattle.spu_asm.specs.Statements.{content_of};
+ghost use Rattle.spu_asm.specs.Contents.{fits, complement, address_value, one_value, is_far, joined, value_in, values_of, Adds, Reads};
 
 use crate::faults::AsmKind;
 use crate::operands::addend_of;
@@ -50,7 +51,7 @@ fn push_address<'a>(
     name: &'a [u8],
     addend: i32,
 ) -> Result<(), OutOfMemory>
-    ensures { OnOk result (joined (Ok (stretch_of content.old)) (address_value name.now (Some addend)) ≡ Ok (stretch_of content.new)) }
+    ensures { OnOk result (joined (Ok (content_of content.old)) (address_value name.now (Some addend)) ≡ Ok (content_of content.new)) }
 {
     let offset = content.bytes.len();
     content.bytes.extend(&[0; 4])?;
@@ -77,7 +78,7 @@ fn push_low_bytes(bytes: &mut Bytes, width: usize, number: u128) -> Result<(), O
 fn push_number(content: &mut Content, width: usize, number: Offset) -> Result<(), Refusal>
     requires some { 0 < width }
     requires most { width ≤ 16 }
-    ensures { Adds result (stretch_of content.old) (stretch_of content.new) (number_value width number) }
+    ensures { Adds result (content_of content.old) (content_of content.new) (one_value width (Some (Values.plain number))) }
 {
     if !fits(width, number) {
         return Err(Refusal::Fault(AsmKind::Range));
@@ -96,7 +97,7 @@ fn push_value<'a>(
 ) -> Result<(), Refusal>
     requires some { 0 < width }
     requires most { width ≤ 16 }
-    ensures { Adds result (stretch_of content.old) (stretch_of content.new) (one_value width (option_map Values.value_in value.entry)) }
+    ensures { Adds result (content_of content.old) (content_of content.new) (one_value width (option_map Values.value_in value.entry)) }
 {
     match value {
         Some(Value::Number(number)) => push_number(content, width, number),
@@ -159,7 +160,7 @@ fn worst(width: usize, kind: AsmKind, operands: Option<&[Piece]>) -> AsmKind
 pub fn values<'a>(alloc: Global, width: usize, pieces: &[Piece<'a>]) -> Result<Content<'a>, Refusal>
     requires some { 0 < width }
     requires most { width ≤ 16 }
-    ensures { Reads stretch_of result (values_of width (lexemes pieces.now)) }
+    ensures { Reads content_of result (values_of width (lexemes pieces.now)) }
 {
     let mut content = Content {
         bytes: Seq::new(alloc),

@@ -1,14 +1,15 @@
 //! Directives and what they do.
 
-ghost use Rattle.std.specs.Prelude.{◌≡◌, ◌<◌, ◌≤◌, ◌==◌, true, IfSome, IfNone, Ok, option_map};
+ghost use Rattle.std.specs.Prelude.{◌≡◌, ℕ, List, ◌<◌, ◌≤◌, ◌==◌, ◌∷◌, [], true, IfSome, IfNone, Ok, option_map};
 ghost use Rattle.std.specs.List.{list_any};
 ghost use Rattle.spu_asm.specs.Values.{natural_of, value_of, parted};
 ghost use Rattle.spu_asm.specs.Parts.{lexemes};
-ghost use Rattle.spu_asm.specs.Directives.{name_of, of_number, only_if, directive_of, alone, of_some, meaning_of, is_step, kind_by_name, kind_by_flags, symbol_kind, is_nobits, flagged, section_of, one_symbol, type_of, size_by, size_of, one_number, align_by, space_by, common_by, common_of, one_text};
-ghost use Rattle.spu_asm.specs.Statements.{section, exports, may_be_common, common};
-ghost use Rattle.spu_asm.specs.Contents.{Gives, contents, values_of};
-ghost use Rattle.spu_asm.specs.Quotes.{text_of};
+ghost use Rattle.spu_asm.specs.Directives.{of_some, only_if, alone, one_symbol, one_number, one_text, of_symbol, kind_by, size_by, align_by, is_step, common_by, kind_by_name, kind_by_flags, is_nobits, flagged, section_of, name_of, directive_of, meaning_of};
 ghost use Rattle.spu_asm.specs.declared.directives.Directive.{Directive};
+ghost use Rattle.spu_text.specs.Lexemes.{word};
+ghost use Rattle.spu_asm.specs.Statements.{Effect, section, space, exports, may_be_common, common};
+ghost use Rattle.spu_asm.specs.Contents.{Gives, values_of};
+ghost use Rattle.spu_asm.specs.Quotes.{text_of};
 
 use crate::contents::values;
 use crate::names::is_symbol;
@@ -205,7 +206,7 @@ fn section<'a>(alloc: Global, pieces: &[Piece<'a>]) -> Result<Action<'a>, Refusa
 
 /// The one operand, which is a symbol.
 fn one_symbol<'a>(pieces: &[Piece<'a>]) -> Option<&'a [u8]>
-    ensures { option_map (λ name. name.now) result ≡ one_symbol (lexemes pieces.now) }
+    ensures { (f : List ℕ → Effect) → one_symbol f (lexemes pieces.now) ≡ of_some (λ s. Ok (f s)) (option_map (λ name. name.now) result) }
 {
     match pieces {
         [Piece::Word(name)] if is_symbol(name) => Some(*name),
@@ -213,31 +214,44 @@ fn one_symbol<'a>(pieces: &[Piece<'a>]) -> Option<&'a [u8]>
     }
 }
 
-/// The kind of symbol that a word names.
-#[tactic(auto, unfolding(crate::specs::Directives::symbol_kind))]
-fn symbol_kind(word: &[u8]) -> Option<SymKind>
-    ensures { result ≡ symbol_kind word.now }
+/// The kind of a symbol, by the word behind its name.
+#[tactic(auto, unfolding(crate::specs::Statements::effect_of))]
+fn kind_named<'a>(name: &'a [u8], kind: &'a [u8]) -> Result<Action<'a>, Refusal>
+    ensures { Gives result (kind_by name.now (word kind.now ∷ [])) }
 {
-    if word == b"@function".as_slice() {
-        Some(SymKind::Function)
-    } else if word == b"@object".as_slice() {
-        Some(SymKind::Object)
+    if kind == b"@function".as_slice() {
+        Ok(Action::Kind {
+            name,
+            kind: SymKind::Function,
+        })
+    } else if kind == b"@object".as_slice() {
+        Ok(Action::Kind {
+            name,
+            kind: SymKind::Object,
+        })
     } else {
-        None
+        Err(BAD_DIRECTIVE)
+    }
+}
+
+/// The kind of a symbol, as it is written behind its name.
+fn kind_by<'a>(name: &'a [u8], pieces: &[Piece<'a>]) -> Result<Action<'a>, Refusal>
+    ensures { Gives result (kind_by name.now (lexemes pieces.now)) }
+{
+    match pieces {
+        [Piece::Word(kind)] => kind_named(name, kind),
+        _ => Err(BAD_DIRECTIVE),
     }
 }
 
 /// The kind of a symbol.
-#[tactic(auto, unfolding(crate::specs::Statements::effect_of))]
 fn type_of<'a>(pieces: &[Piece<'a>]) -> Result<Action<'a>, Refusal>
-    ensures { Gives result (type_of (lexemes pieces.now)) }
+    ensures { Gives result (of_symbol kind_by (lexemes pieces.now)) }
 {
     match pieces {
-        [Piece::Word(name), Piece::Mark(b','), Piece::Word(word)] if is_symbol(name) =>
-            match symbol_kind(word) {
-                Some(kind) => Ok(Action::Kind { name: *name, kind }),
-                None => Err(BAD_DIRECTIVE),
-            },
+        [Piece::Word(name), Piece::Mark(b','), kind @ ..] if is_symbol(name) => kind_by(
+            *name, kind,
+        ),
         _ => Err(BAD_DIRECTIVE),
     }
 }
@@ -275,7 +289,7 @@ fn size_by<'a>(name: &'a [u8], pieces: &[Piece<'a>]) -> Result<Action<'a>, Refus
 
 /// The size of a symbol.
 fn size_of<'a>(pieces: &[Piece<'a>]) -> Result<Action<'a>, Refusal>
-    ensures { Gives result (size_of (lexemes pieces.now)) }
+    ensures { Gives result (of_symbol size_by (lexemes pieces.now)) }
 {
     match pieces {
         [Piece::Word(name), Piece::Mark(b','), size @ ..] if is_symbol(name) => size_by(
@@ -299,7 +313,7 @@ fn align_of<'a>(pieces: &[Piece<'a>]) -> Result<Action<'a>, Refusal>
 /// Zero bytes.
 #[tactic(auto, unfolding(crate::specs::Statements::effect_of))]
 fn space_of<'a>(pieces: &[Piece<'a>]) -> Result<Action<'a>, Refusal>
-    ensures { Gives result (one_number space_by (lexemes pieces.now)) }
+    ensures { Gives result (one_number (λ n. Ok (space n)) (lexemes pieces.now)) }
 {
     match natural(pieces) {
         Some(n) => Ok(Action::Space(n)),
@@ -323,7 +337,7 @@ fn common_with<'a>(
     size: Option<u128>,
     step: Option<u128>,
 ) -> Result<Action<'a>, Refusal>
-    ensures { Gives result (of_number (λ n. of_number (λ a. only_if (is_step a) (common name.now n a)) step) size) }
+    ensures { Gives result (of_some (λ n. of_some (λ a. only_if (is_step a) (common name.now n a)) step) size) }
 {
     match (size, step) {
         (Some(size), Some(step)) => if is_step(step) {
@@ -356,7 +370,7 @@ fn common_by<'a>(name: &'a [u8], pieces: &[Piece]) -> Result<Action<'a>, Refusal
 
 /// Zero bytes in `.bss`, under a name.
 fn common_of<'a>(pieces: &[Piece<'a>]) -> Result<Action<'a>, Refusal>
-    ensures { Gives result (common_of (lexemes pieces.now)) }
+    ensures { Gives result (of_symbol (λ s ts. common_by s (parted 44 ts)) (lexemes pieces.now)) }
 {
     match pieces {
         [Piece::Word(name), Piece::Mark(b','), rest @ ..] if is_symbol(name) => common_by(
@@ -389,7 +403,7 @@ fn one_text<'a>(alloc: Global, pieces: &[Piece<'a>], end: &[u8]) -> Result<Actio
 fn data<'a>(alloc: Global, width: usize, pieces: &[Piece<'a>]) -> Result<Action<'a>, Refusal>
     requires some { 0 < width }
     requires most { width ≤ 16 }
-    ensures { Gives result (contents (values_of width (lexemes pieces.now))) }
+    ensures { Gives result (values_of width (lexemes pieces.now)) }
 {
     match values(alloc, width, pieces) {
         Ok(content) => Ok(Action::Data(content)),
@@ -400,7 +414,7 @@ fn data<'a>(alloc: Global, width: usize, pieces: &[Piece<'a>]) -> Result<Action<
 /// A global symbol.
 #[tactic(auto, unfolding(crate::specs::Statements::effect_of))]
 fn global<'a>(pieces: &[Piece<'a>]) -> Result<Action<'a>, Refusal>
-    ensures { Gives result (of_some exports (one_symbol (lexemes pieces.now))) }
+    ensures { Gives result (one_symbol exports (lexemes pieces.now)) }
 {
     match one_symbol(pieces) {
         Some(name) => Ok(Action::Global(name)),
@@ -411,7 +425,7 @@ fn global<'a>(pieces: &[Piece<'a>]) -> Result<Action<'a>, Refusal>
 /// A symbol that may be common.
 #[tactic(auto, unfolding(crate::specs::Statements::effect_of))]
 fn local<'a>(pieces: &[Piece<'a>]) -> Result<Action<'a>, Refusal>
-    ensures { Gives result (of_some may_be_common (one_symbol (lexemes pieces.now))) }
+    ensures { Gives result (one_symbol may_be_common (lexemes pieces.now)) }
 {
     match one_symbol(pieces) {
         Some(name) => Ok(Action::Local(name)),

@@ -10,7 +10,6 @@ pub mod directives;
 mod faults;
 mod laws;
 pub mod names;
-mod numerals;
 pub mod objects;
 pub mod operands;
 pub mod parts;

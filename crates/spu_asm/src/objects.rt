@@ -3,8 +3,8 @@
 ghost use Rattle.std.specs.Prelude.{◌≡◌, ◌<◌, ◌^◌, ◌++◌, ℕ, List, true, false, length, map, IfOk, OnOk, MatchOption};
 ghost use Rattle.std.specs.List.{list_all};
 ghost use Rattle.spu_asm.specs.Tables.{rows, index_in, Distinct};
-ghost use Rattle.spu_asm.specs.Objects.{ordered_at, section_at, symbol_at, place_at, reloc_at, relocs_at, is_global_at, object_at};
-ghost use Rattle.spu_asm.specs.Cursors.{relocation_of_pending, draft_of, drafts, sighting_of, sightings, cursor_of, is_near, has_near, is_small, is_spellable, is_chosen, chosen, numbered};
+ghost use Rattle.spu_asm.specs.Objects.{ordered_at, section_at, symbol_at, place_at, reloc_at, relocs_at, is_chosen, chosen, object_at};
+ghost use Rattle.spu_asm.specs.Cursors.{relocation_of_pending, draft_of, drafts, sighting_of, sightings, cursor_of, is_near, has_near, is_small, is_spellable, numbered};
 
 use crate::accumulating::Assembler;
 use crate::sections::{Pending, SectionDraft};

@@ -1,12 +1,12 @@
 //! The operands of instructions.
 
-ghost use Rattle.std.specs.Prelude.{◌≡◌, ◌<◌, ◌≤◌, ◌^◌, ◌-◌, ◌/◌, ◌%◌, ◌*◌, ◌+◌, Option, option_map, List, length, fold, IfSome, IfOk, Ok, Err};
+ghost use Rattle.std.specs.Prelude.{◌≡◌, ◌<◌, ◌≤◌, ◌^◌, ◌-◌, ◌/◌, ◌%◌, ◌*◌, ◌+◌, Option, option_map, List, length, fold, IfSome, IfOk, Some, Ok, Err};
 ghost use Rattle.spu_isa.specs.Table.{InRange};
 ghost use Rattle.spu_reloc.specs.Fields.{kind_on};
 ghost use Rattle.spu_asm.specs.Names.{without_suffix};
-ghost use Rattle.spu_asm.specs.Values.{value_in, value_of, operands_of};
+ghost use Rattle.spu_asm.specs.Values.{plain, here, symbol, value_in, value_of, operands_of};
 ghost use Rattle.spu_asm.specs.Parts.{lexemes, parts_left};
-ghost use Rattle.spu_asm.specs.Operands.{slots_of, is_optional, left, scaled, quotient, signed_number, addend_of, place_field, suffix_of, refers, number_given, relative_given, address_given, below_128, small_given, place_given, register_given, register_number_given, channel_given, base_given, given, all_given, with_field, read, blank, coded, given_in, coded_in, reading_in, or_far, or_bad, immediate, register};
+ghost use Rattle.spu_asm.specs.Operands.{slots_of, is_optional, left, scaled, quotient, signed_number, addend_of, place_field, suffix_of, refers, in_range, small_given, value_given, base_given, given, all_given, with_field, read, blank, coded, given_in, coded_in, reading_in, or_bad, register};
 
 use crate::faults::AsmKind;
 use crate::names::{channel_of, register_of, without_suffix};
@@ -169,79 +169,93 @@ fn refers<'a>(op: Op, word: &'a [u8], number: Offset) -> Given<'a>
     }
 }
 
-/// The immediate field, where the number is in range.
-fn immediate<'a>(number: Option<i32>) -> Given<'a>
-    ensures { given_in result ≡ or_far immediate number }
+/// The immediate field of a number in its range.
+fn in_range<'a>(range: Range, number: Offset) -> Given<'a>
+    ensures { given_in result ≡ in_range range number }
 {
-    match number {
+    match signed_number(range, number) {
         Some(number) => Given::Immediate(number),
         None => Given::Far,
     }
 }
 
-/// A number alone.
-fn number_given<'a>(range: Range, value: Option<Value<'a>>) -> Given<'a>
-    ensures { given_in result ≡ number_given range (option_map value_in value.entry) }
+/// The register field of a number from 0 to 127.
+fn small_given<'a>(field: Field, number: Offset) -> Given<'a>
+    ensures { given_in result ≡ small_given field number }
 {
-    match value {
-        Some(Value::Number(number)) => immediate(signed_number(range, number)),
-        Some(Value::Here(_)) | Some(Value::Symbol(_, _)) | None => Given::Bad,
-    }
-}
-
-/// A distance, or a symbol.
-fn relative_given<'a>(op: Op, value: Option<Value<'a>>) -> Given<'a>
-    ensures { given_in result ≡ relative_given op (option_map value_in value.entry) }
-{
-    match value {
-        Some(Value::Here(number)) => immediate(signed_number(Range::WordDistance, number)),
-        Some(Value::Symbol(word, number)) => refers(op, word, number),
-        Some(Value::Number(_)) | None => Given::Bad,
-    }
-}
-
-/// A number, or a symbol.
-fn address_given<'a>(op: Op, range: Range, value: Option<Value<'a>>) -> Given<'a>
-    ensures { given_in result ≡ address_given op range (option_map value_in value.entry) }
-{
-    match value {
-        Some(Value::Number(number)) => immediate(signed_number(range, number)),
-        Some(Value::Symbol(word, number)) => refers(op, word, number),
-        Some(Value::Here(_)) | None => Given::Bad,
-    }
-}
-
-/// A number from 0 to 127.
-fn small_given<'a>(field: Field, value: Option<Value<'a>>) -> Given<'a>
-    ensures { given_in result ≡ small_given field (option_map value_in value.entry) }
-{
-    match value {
-        Some(Value::Number(number)) => match number.natural() {
-            Some(number) => if number < 128 {
-                Given::Register(field, number as u8)
-            } else {
-                Given::Far
-            },
-            None => Given::Far,
+    match number.natural() {
+        Some(number) => if number < 128 {
+            Given::Register(field, number as u8)
+        } else {
+            Given::Far
         },
-        Some(Value::Here(_)) | Some(Value::Symbol(_, _)) | None => Given::Bad,
+        None => Given::Far,
     }
 }
 
-/// A hint's place.
-fn place_given<'a>(value: Option<Value<'a>>) -> Given<'a>
-    ensures { given_in result ≡ place_given (option_map value_in value.entry) }
+/// What a number alone gives.
+fn number_given<'a>(op: Op, slot: Slot, number: Offset) -> Given<'a>
+    ensures { given_in result ≡ value_given op slot (Some (plain number)) }
 {
-    match value {
-        Some(Value::Number(number)) => match place_field(number) {
+    match slot {
+        Slot::RegisterNumber => small_given(Field::Rt, number),
+        Slot::Channel => small_given(Field::Ra, number),
+        Slot::Number(range) => in_range(range, number),
+        Slot::Memory(range) => in_range(range, number),
+        Slot::Address(range) => in_range(range, number),
+        Slot::Place => match place_field(number) {
             Some(bits) => Given::NineBits((bits / 128) as u8, (bits % 128) as u8),
             None => Given::Far,
         },
-        Some(Value::Symbol(word, number)) => match addend_of(number) {
+        Slot::Register(_) | Slot::Relative => Given::Bad,
+    }
+}
+
+/// What `.` and a distance give.
+fn here_given<'a>(op: Op, slot: Slot, number: Offset) -> Given<'a>
+    ensures { given_in result ≡ value_given op slot (Some (here number)) }
+{
+    match slot {
+        Slot::Relative => in_range(Range::WordDistance, number),
+        Slot::Register(_)
+        | Slot::RegisterNumber
+        | Slot::Channel
+        | Slot::Number(_)
+        | Slot::Address(_)
+        | Slot::Memory(_)
+        | Slot::Place => Given::Bad,
+    }
+}
+
+/// What a symbol and what is added to it give.
+fn symbol_given<'a>(op: Op, slot: Slot, word: &'a [u8], number: Offset) -> Given<'a>
+    ensures { given_in result ≡ value_given op slot (Some (symbol word.now number)) }
+{
+    match slot {
+        Slot::Relative => refers(op, word, number),
+        Slot::Address(_) => refers(op, word, number),
+        Slot::Place => match addend_of(number) {
             Some(_) => Given::PlaceSymbol(word),
             None => Given::Far,
         },
-        Some(Value::Here(_)) | None => Given::Bad,
+        Slot::Register(_)
+        | Slot::RegisterNumber
+        | Slot::Channel
+        | Slot::Number(_)
+        | Slot::Memory(_) => Given::Bad,
+    }
+}
+
+/// What a value gives.
+#[tactic(auto, using(crate::proofs::OperandLemmas::no_value))]
+fn value_given<'a>(op: Op, slot: Slot, value: Option<Value<'a>>) -> Given<'a>
+    ensures { given_in result ≡ value_given op slot (option_map value_in value.entry) }
+{
+    match value {
+        Some(Value::Number(number)) => number_given(op, slot, number),
+        Some(Value::Here(number)) => here_given(op, slot, number),
+        Some(Value::Symbol(word, number)) => symbol_given(op, slot, word, number),
+        None => Given::Bad,
     }
 }
 
@@ -252,36 +266,6 @@ fn named<'a>(field: Field, number: Option<u8>) -> Given<'a>
     match number {
         Some(number) => Given::Register(field, number),
         None => Given::Bad,
-    }
-}
-
-/// A register.
-fn register_given<'a>(field: Field, pieces: &[Piece<'a>]) -> Given<'a>
-    ensures { given_in result ≡ register_given field (lexemes pieces.now) }
-{
-    match pieces {
-        [Piece::Word(word)] => named(field, register_of(word)),
-        _ => Given::Bad,
-    }
-}
-
-/// A register, or its number.
-fn register_number_given<'a>(pieces: &[Piece<'a>]) -> Given<'a>
-    ensures { given_in result ≡ register_number_given (lexemes pieces.now) }
-{
-    match pieces {
-        [Piece::Word(word)] => named(Field::Rt, register_of(word)),
-        _ => small_given(Field::Rt, value_of(pieces)),
-    }
-}
-
-/// A channel, or its number.
-fn channel_given<'a>(pieces: &[Piece<'a>]) -> Given<'a>
-    ensures { given_in result ≡ channel_given (lexemes pieces.now) }
-{
-    match pieces {
-        [Piece::Word(word)] => named(Field::Ra, channel_of(word)),
-        _ => small_given(Field::Ra, value_of(pieces)),
     }
 }
 
@@ -373,18 +357,27 @@ fn read_slot<'a>(
     ensures { reading_in result ≡ fold read (reading_in so_far.entry) (given op slot (lexemes operand.now)) }
 {
     match slot {
-        Slot::Register(field) => read(so_far, register_given(field, operand)),
-        Slot::RegisterNumber => read(so_far, register_number_given(operand)),
-        Slot::Channel => read(so_far, channel_given(operand)),
-        Slot::Number(range) => read(so_far, number_given(range, value_of(operand))),
-        Slot::Relative => read(so_far, relative_given(op, value_of(operand))),
-        Slot::Address(range) => read(so_far, address_given(op, range, value_of(operand))),
-        Slot::Memory(range) => {
+        Slot::Register(field) => match operand {
+            [Piece::Word(word)] => read(so_far, named(field, register_of(word))),
+            _ => read(so_far, Given::Bad),
+        },
+        Slot::RegisterNumber => match operand {
+            [Piece::Word(word)] => read(so_far, named(Field::Rt, register_of(word))),
+            _ => read(so_far, value_given(op, slot, value_of(operand))),
+        },
+        Slot::Channel => match operand {
+            [Piece::Word(word)] => read(so_far, named(Field::Ra, channel_of(word))),
+            _ => read(so_far, value_given(op, slot, value_of(operand))),
+        },
+        Slot::Memory(_) => {
             let (front, base) = split_base(operand);
-            let coded = read(so_far, number_given(range, value_of(front)));
+            let coded = read(so_far, value_given(op, slot, value_of(front)));
             read(coded, base_given(base))
         }
-        Slot::Place => read(so_far, place_given(value_of(operand))),
+        Slot::Number(_) => read(so_far, value_given(op, slot, value_of(operand))),
+        Slot::Relative => read(so_far, value_given(op, slot, value_of(operand))),
+        Slot::Address(_) => read(so_far, value_given(op, slot, value_of(operand))),
+        Slot::Place => read(so_far, value_given(op, slot, value_of(operand))),
     }
 }
 

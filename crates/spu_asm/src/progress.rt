@@ -1,6 +1,6 @@
 //! Statement after statement, with the first fault so far.
 
-ghost use Rattle.std.specs.Prelude.{◌≡◌, ◌∷◌, [], OnOk, IfOk, option_map};
+ghost use Rattle.std.specs.Prelude.{◌≡◌, ◌∷◌, OnOk, IfOk, option_map};
 ghost use Rattle.spu_asm.specs.Statements.{stmt_of};
 ghost use Rattle.spu_asm.specs.Faults.{Run, nothing_yet, after, comes_before, earlier};
 ghost use Rattle.spu_asm.specs.Progressing.{InRun, Finishes, fault_of};
@@ -56,7 +56,6 @@ fn earlier(f: LineFault, other: Option<LineFault>) -> LineFault
 
 impl<'a> Progress<'a> {
     /// No statement yet.
-    #[tactic(auto, using(crate::proofs::Joins::nothing_kept))]
     pub fn new(alloc: Global) -> Progress<'a>
         ensures { InRun nothing_yet result }
     {

@@ -1,7 +1,7 @@
 //! Quoted text and its escapes.
 
-ghost use Rattle.std.specs.Prelude.{◌≡◌, ◌<◌, ◌≤◌, ◌+◌, ◌-◌, ◌*◌, ◌%◌, true, [], ◌∷◌, length, slice_index, drop, IfOk, IfSome, option_map, is_some};
-ghost use Rattle.spu_asm.specs.Quotes.{is_octal, letter_of, octal_len, octal_byte, escaped, escape_len, front_byte, front_len, inside_quotes, unescaped, text_of};
+ghost use Rattle.std.specs.Prelude.{◌≡◌, ◌<◌, ◌≤◌, ◌+◌, ◌-◌, ◌*◌, ◌%◌, true, [], ◌∷◌, length, take, drop, IfOk, IfSome, Some, is_some};
+ghost use Rattle.spu_asm.specs.Quotes.{is_octal, letter_of, escape, front, text_of};
 
 use spu_word::{Bytes, OutOfMemory, Seq};
 use std::alloc::Global;
@@ -49,8 +49,7 @@ fn octal(a: u8, b: u8, c: u8) -> u8
 #[tactic(auto, using(crate::proofs::QuoteLemmas::zero_digit, crate::proofs::QuoteLemmas::one_digit, crate::proofs::QuoteLemmas::two_digits, crate::proofs::QuoteLemmas::three_digits))]
 fn octal_digits(first: u8, rest: &[u8]) -> (u8, usize)
     requires { is_octal first ≡ true }
-    ensures byte { result.0 ≡ octal_byte (first ∷ rest.now) }
-    ensures len { result.1 ≡ octal_len (first ∷ rest.now) }
+    ensures byte { Some (result.0, result.1) ≡ escape (first ∷ rest.now) }
     ensures within { result.1 ≤ length rest.now + 1 }
     ensures some { 0 < result.1 }
 {
@@ -72,10 +71,9 @@ fn octal_digits(first: u8, rest: &[u8]) -> (u8, usize)
 }
 
 /// The byte for which stands what is behind a `\`, and how many bytes that is.
-#[tactic(auto, using(crate::proofs::QuoteLemmas::nothing_escaped), unfolding(crate::specs::Quotes::escaped, crate::specs::Quotes::escape_len))]
+#[tactic(auto, using(crate::proofs::QuoteLemmas::nothing_escaped, crate::proofs::QuoteLemmas::letter_known, crate::proofs::QuoteLemmas::letter_unknown))]
 fn escape(bytes: &[u8]) -> Option<(u8, usize)>
-    ensures byte { option_map (λ x. x.0) result ≡ escaped bytes.now }
-    ensures len { IfSome result (λ x. x.1 ≡ escape_len bytes.now) }
+    ensures value { result ≡ escape bytes.now }
     ensures within { IfSome result (λ x. x.1 ≤ length bytes.now) }
 {
     match bytes {
@@ -88,27 +86,22 @@ fn escape(bytes: &[u8]) -> Option<(u8, usize)>
     }
 }
 
-/// The byte for which the front of the bytes stands, and how many bytes that is.
-#[tactic(auto, unfolding(crate::specs::Quotes::front_byte, crate::specs::Quotes::front_len))]
-fn front(bytes: &[u8]) -> Option<(u8, usize)>
-    requires { 0 < length bytes.now }
-    ensures byte { option_map (λ x. x.0) result ≡ front_byte (slice_index bytes.now 0) (drop 1 bytes.now) }
-    ensures len { IfSome result (λ x. x.1 ≡ front_len (slice_index bytes.now 0) (drop 1 bytes.now) + 1) }
-    ensures within { IfSome result (λ x. x.1 ≤ length bytes.now) }
+/// The byte for which the front stands, and how many bytes behind the first belong to it.
+#[tactic(auto, unfolding(crate::specs::Quotes::front))]
+fn front(first: u8, behind: &[u8]) -> Option<(u8, usize)>
+    ensures value { result ≡ front first behind.now }
+    ensures within { IfSome result (λ x. x.1 ≤ length behind.now) }
 {
-    match bytes {
-        [b'\\', rest @ ..] => {
-            let (byte, size) = escape(rest)?;
-            Some((byte, size + 1))
-        }
-        [byte, ..] => Some((*byte, 1)),
-        [] => None,
+    if first == b'\\' {
+        escape(behind)
+    } else {
+        Some((first, 0))
     }
 }
 
 /// Quoted text without its quotes.
 fn inside_quotes(quoted: &[u8]) -> &[u8]
-    ensures { result.now ≡ inside_quotes quoted.now }
+    ensures { result.now ≡ take (length quoted.now - 2) (drop 1 quoted.now) }
 {
     match quoted {
         [_, inside @ .., _] => inside,
@@ -123,12 +116,12 @@ pub fn text_of(alloc: Global, quoted: &[u8]) -> Result<Option<Bytes>, OutOfMemor
 {
     let mut text = Seq::new(alloc);
     let mut rest = inside_quotes(quoted);
-    while !rest.is_empty() {
-        let Some((byte, size)) = front(rest) else {
+    while let [first, behind @ ..] = rest {
+        let Some((byte, size)) = front(*first, behind) else {
             return Ok(None);
         };
         text.push(byte)?;
-        rest = rest.split_at(size).1;
+        rest = behind.split_at(size).1;
     }
     Ok(Some(text))
 }
@@ -139,11 +132,11 @@ pub fn is_known(quoted: &[u8]) -> bool
     ensures { result ≡ is_some (text_of quoted.now) }
 {
     let mut rest = inside_quotes(quoted);
-    while !rest.is_empty() {
-        let Some((_, size)) = front(rest) else {
+    while let [first, behind @ ..] = rest {
+        let Some((_, size)) = front(*first, behind) else {
             return false;
         };
-        rest = rest.split_at(size).1;
+        rest = behind.split_at(size).1;
     }
     true
 }

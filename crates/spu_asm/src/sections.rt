@@ -1,12 +1,12 @@
 //! Sections as statements add to them.
 
-ghost use Rattle.std.specs.Prelude.{◌≡◌, ℕ, ◌+◌, ◌*◌, ◌/◌, ◌≤◌, ◌<◌, ◌^◌, [], ◌∷◌, ◌++◌, length, map, replicate, OnOk, IfOk, IfSome, option_map, Option, Some};
+ghost use Rattle.std.specs.Prelude.{◌≡◌, ◌+◌, ◌*◌, ◌/◌, ◌≤◌, ◌<◌, [], ◌∷◌, ◌++◌, length, map, replicate, OnOk, IfSome, option_map, Option, Some};
 ghost use Rattle.std.specs.List.{concat};
 ghost use Rattle.spu_word.specs.Bytes.{be_digits};
 ghost use Rattle.spu_asm.specs.Statements.{effect_of, instruction_of, content_of, relocations_by, address_relocation, listed, align, moved};
-ghost use Rattle.spu_asm.specs.Histories.{gap, filling, added_bytes};
+ghost use Rattle.spu_asm.specs.Histories.{gap, filling};
 ghost use Rattle.spu_asm.specs.Tables.{edited, opened, value_in};
-ghost use Rattle.spu_asm.specs.Summaries.{draft_kind, draft_size};
+ghost use Rattle.spu_asm.specs.Summaries.{Draft, size_at};
 ghost use Rattle.spu_asm.specs.Cursors.{relocation_of_pending, draft_of, drafts, blank, grown, referring, raised, grown_by, Fits};
 ghost use Rattle.spu_asm.specs.Operands.{target_in};
 ghost use Rattle.spu_reloc.specs.Fields.{number_of};
@@ -282,7 +282,7 @@ impl<'a> Table<'a, SectionDraft<'a>> {
 
     /// The kind of a section, if it is there.
     pub fn kind(&self, name: &[u8]) -> Option<SecKind>
-        ensures { result ≡ draft_kind (value_in (drafts self.now) name.now) }
+        ensures { result ≡ option_map (λ (d : Draft). d.kind) (value_in (drafts self.now) name.now) }
     {
         match self.get(name) {
             Some(draft) => Some(draft.kind),
@@ -292,7 +292,7 @@ impl<'a> Table<'a, SectionDraft<'a>> {
 
     /// The size of a section; 0 where it isn't there.
     pub fn size(&self, name: &[u8]) -> u32
-        ensures { result ≡ draft_size (value_in (drafts self.now) name.now) }
+        ensures { result ≡ size_at (drafts self.now) name.now }
     {
         match self.get(name) {
             Some(draft) => draft.size,

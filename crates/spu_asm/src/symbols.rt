@@ -1,11 +1,11 @@
 //! Symbols as statements tell of them.
 
-ghost use Rattle.std.specs.Prelude.{◌≡◌, ◌||◌, option_map, ◌-◌, ◌++◌, map, is_none, Some, OnOk, true};
+ghost use Rattle.std.specs.Prelude.{◌≡◌, ◌||◌, option_map, ◌-◌, map, is_none, Some, OnOk, true};
 ghost use Rattle.spu_asm.specs.Statements.{effect_of, instruction_names, address_relocation};
-ghost use Rattle.spu_asm.specs.Histories.{reach, relocation_names};
-ghost use Rattle.spu_asm.specs.Tables.{put, opened, value_in};
-ghost use Rattle.spu_asm.specs.Summaries.{spot_at};
-ghost use Rattle.spu_asm.specs.Cursors.{spot_of_code, sighting_of, sightings, unseen, state_at, told, mentioned, labelled, placed, told_by};
+ghost use Rattle.spu_asm.specs.Histories.{reach, relocation_names, named_by};
+ghost use Rattle.spu_asm.specs.Tables.{put};
+ghost use Rattle.spu_asm.specs.Summaries.{unseen, placed, told_of, spot_at};
+ghost use Rattle.spu_asm.specs.Cursors.{spot_of_code, sighting_of, sightings, state_at, told, told_all};
 
 use crate::statements::{Action, AddressValue, Instruction};
 use crate::tables::Table;
@@ -91,7 +91,7 @@ impl<'a> Table<'a, SymbolDraft<'a>> {
 
     /// Names a symbol.
     fn mention(&mut self, name: &'a [u8]) -> Result<(), OutOfMemory>
-        ensures { OnOk result (sightings self.new ≡ opened (sightings self.old) name.now unseen) }
+        ensures { OnOk result (sightings self.new ≡ told (sightings self.old) name.now (λ s. s)) }
     {
         self.open(name, unknown())
     }
@@ -112,7 +112,7 @@ impl<'a> Table<'a, SymbolDraft<'a>> {
 
     /// Makes names labels.
     pub fn define_all(&mut self, labels: &[&'a [u8]], spot: Spot<'a>) -> Result<(), OutOfMemory>
-        ensures { OnOk result (sightings self.new ≡ labelled (sightings self.old) (map (λ w. w.now) labels.now) (spot_of_code spot.entry)) }
+        ensures { OnOk result (sightings self.new ≡ told_all (sightings self.old) (map (λ w. w.now) labels.now) (placed (spot_of_code spot.entry))) }
     {
         let mut rest = labels;
         while let [label, more @ ..] = rest {
@@ -183,7 +183,7 @@ impl<'a> Table<'a, SymbolDraft<'a>> {
 
     /// Names the symbols in the operands of an instruction.
     fn mention_operands(&mut self, coded: &Instruction<'a>) -> Result<(), OutOfMemory>
-        ensures { OnOk result (sightings self.new ≡ mentioned (sightings self.old) (instruction_names coded.now)) }
+        ensures { OnOk result (sightings self.new ≡ told_all (sightings self.old) (instruction_names coded.now) (λ s. s)) }
     {
         match (coded.place, coded.target) {
             (None, None) => Ok(()),
@@ -198,7 +198,7 @@ impl<'a> Table<'a, SymbolDraft<'a>> {
 
     /// Names the symbols among values.
     fn mention_values(&mut self, addresses: &[AddressValue<'a>]) -> Result<(), OutOfMemory>
-        ensures { OnOk result (sightings self.new ≡ mentioned (sightings self.old) (relocation_names (map address_relocation addresses.now))) }
+        ensures { OnOk result (sightings self.new ≡ told_all (sightings self.old) (relocation_names (map address_relocation addresses.now)) (λ s. s)) }
     {
         for address in addresses {
             self.mention(address.name)?;
@@ -214,7 +214,7 @@ impl<'a> Table<'a, SymbolDraft<'a>> {
         at: u32,
         common: Spot<'a>,
     ) -> Result<(), OutOfMemory>
-        ensures { OnOk result (sightings self.new ≡ told_by (effect_of action.now) (sightings self.old) at (spot_of_code common.entry)) }
+        ensures { OnOk result (sightings self.new ≡ told_all (sightings self.old) (named_by (effect_of action.now)) (told_of (effect_of action.now) at (spot_of_code common.entry))) }
     {
         match action {
             Action::Instruction(coded) => self.mention_operands(coded),

@@ -1,6 +1,7 @@
 -- What embed answers.
 use Rattle.std.proofs.Common.{◌≡◌, List, ℕ, ◌≤◌, length, Result, Ok, Err, sym, ap, subst, ◌∙◌}
 use Rattle.std.specs.Result.{IfOk}
+use Rattle.spu_word.specs.declared.limits.TheConstants.{MAX_FILE_SIZE}
 use Rattle.spu_elf.specs.Spelling.{spell_exec}
 use Rattle.spu_elf.specs.Validity.{IsName, IsValidExec}
 use Rattle.spu_elf.specs.declared.executables.Exec.{Exec}
@@ -19,3 +20,12 @@ unpacks (Ok e) name x file named valid is spelled size =
     let same : e ≡ embedding name (entry_names x.symbols) (spell_exec x) = spelled ∙ whole in
     subst (λ (z : List ℕ). Unpacks z file) (sym same) (subst (λ (z : List ℕ). Unpacks (embedding name (entry_names x.symbols) (spell_exec x)) z) (sym is) (embedded_again name x named valid (subst (λ (z : List ℕ). length z ≤ 4194304) whole size)))
 unpacks (Err e) name x file named valid is spelled size = tt
+
+-- what embeds an executable's file is taken out as that file
+pub taken_out : (name file e : List ℕ) → Embeds name file e → Unpacks e file
+taken_out name file e h =
+    let names = entry_names h.executable.symbols in
+    let spelled : e ≡ embedding name names (spell_exec h.executable) = h.spelled ∙ ap (embedding name names) (sym h.file_is) in
+    subst (Unpacks e) h.file_is
+    (subst (λ b. Unpacks b (spell_exec h.executable)) (sym spelled)
+    (embedded_again name h.executable h.named h.valid (subst (λ b. length b ≤ MAX_FILE_SIZE) spelled h.small)))

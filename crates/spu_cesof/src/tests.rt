@@ -51,6 +51,19 @@ const FAULTS: &str = "\
     819 13 2 819; 827 1 2 827; 858 2 2 858; 800 1 3 800; 834 6 3 834; 991 98 3 991; 994 100 3 994; \
     460 16 3 1208";
 
+/// Rows have two offsets in that object with the bytes that are put there, the number of the fault that
+/// comes first, and its place.
+const ORDERS: &str = "\
+    147 20 819 13 1 146; 819 13 800 1 2 819; 800 1 834 6 3 800; 834 6 991 98 3 834; \
+    1379 5 876 1 1 876; 1379 5 989 32 1 1376; 1379 5 1451 1 1 1448; 52 1 876 1 1 52; \
+    52 1 1451 1 1 1448; 1411 0 1411 0 1 1408; 995 120 995 120 1 996; 1411 9 1411 9 1 1444; \
+    49 8 49 8 1 50; 49 8 51 7 1 1208; 49 10 49 10 1 48; 17 2 19 21 1 18; 7 1 8 1 1 7; \
+    460 16 991 98 3 991; 147 20 1467 1 1 1464; 995 120 988 1 1 996; 989 32 956 17 1 956; \
+    867 3 856 1 2 856";
+
+/// The bytes of each segment but the last of a large executable.
+const LARGE_SIZE: usize = 262_016;
+
 /// A symbol of the executable.
 fn symbol(
     alloc: Global,
@@ -194,6 +207,34 @@ fn check_rows(rt: &impl Abort, alloc: Global, object: &[u8]) -> Result<(), OutOf
     Ok(())
 }
 
+/// Each row's two bytes make its fault.
+fn check_orders(rt: &impl Abort, alloc: Global, object: &[u8]) -> Result<(), OutOfMemory> {
+    for row in numbers_of(alloc, ORDERS)?.as_slice().chunks(6) {
+        if let [one, first, other, second, number, place] = row {
+            let half = changed(alloc, object, *one, *first)?;
+            let both = changed(alloc, half.as_slice(), *other, *second)?;
+            assert_eq!(rt;
+                faulted(alloc, both.as_slice()),
+                [*number, *place],
+                "at {one} and {other}"
+            );
+        }
+    }
+    Ok(())
+}
+
+#[test]
+fn judges_in_order(rt: HostRuntime) -> Result<(), Fail> {
+    let alloc = rt.alloc();
+    let mut object = bytes_of(alloc, EMBEDDED).ok().ok_or("memory")?;
+    check_orders(&rt, alloc, object.as_slice())
+        .ok()
+        .ok_or("memory")?;
+    object.push(0).ok().ok_or("memory")?;
+    assert_eq!(rt; faulted(alloc, object.as_slice()), [1, 1468]);
+    Ok(())
+}
+
 #[test]
 fn names_the_first_fault(rt: HostRuntime) -> Result<(), Fail> {
     let alloc = rt.alloc();
@@ -218,5 +259,49 @@ fn answers_each_cut_and_each_byte(rt: HostRuntime) -> Result<(), Fail> {
         assert!(rt; number != 0, "memory at {at}");
         assert!(rt; place <= whole.len() as u64, "{place} at {at}");
     }
+    Ok(())
+}
+
+/// An executable of sixteen segments of zeros, whose last has this size.
+fn large(alloc: Global, last: usize) -> Result<Exec, OutOfMemory> {
+    let mut segments = Seq::new(alloc);
+    for k in 0..16u32 {
+        let mut bytes = Seq::new(alloc);
+        bytes.extend_zeros(if k < 15 { LARGE_SIZE } else { last })?;
+        segments.push(Segment {
+            address: 128,
+            overlay: k > 0,
+            bytes,
+        })?;
+    }
+    Ok(Exec {
+        entry: 128,
+        segments,
+        symbols: Seq::new(alloc),
+    })
+}
+
+/// The number of the answer of `embed`, 100 where there is an object that gives the file again, and its size.
+fn embedded_size(alloc: Global, last: usize) -> Option<[u64; 2]> {
+    let x = large(alloc, last).ok()?;
+    if !is_name(b"h") || !x.valid() {
+        return None;
+    }
+    let file = write_exec(alloc, &x).ok()?;
+    match embed(alloc, b"h", &x, file.as_slice()) {
+        Ok(object) => {
+            let back = unpack(alloc, object.as_slice()).ok()?;
+            let same = back.as_slice() == file.as_slice();
+            Some([if same { 100 } else { 0 }, object.len() as u64])
+        }
+        Err(CesofFault::TooLarge(size)) => Some([4, size]),
+        Err(_) => Some([0, 0]),
+    }
+}
+
+#[test]
+fn refuses_a_large_executable(rt: HostRuntime) -> Result<(), Fail> {
+    assert_eq!(rt; embedded_size(rt.alloc(), 261_824), Some([100, 4_194_292]));
+    assert_eq!(rt; embedded_size(rt.alloc(), 261_840), Some([4, 4_194_308]));
     Ok(())
 }

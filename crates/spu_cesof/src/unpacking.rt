@@ -1,6 +1,6 @@
 //! Executables taken out of the objects that embed them.
 
-ghost use Rattle.std.specs.Prelude.{◌≡◌, ◌+◌, ◌*◌, ◌≤◌, ◌<◌, ◌^◌, ◌++◌, length, take, OnOk, IfOk};
+ghost use Rattle.std.specs.Prelude.{◌≡◌, ◌+◌, ◌*◌, ◌≤◌, ◌<◌, ◌^◌, ◌++◌, ℕ, List, length, take, OnOk, IfOk};
 ghost use Rattle.std.specs.List.{flat_map, All};
 ghost use Rattle.spu_word.specs.declared.limits.TheConstants.{MAX_FILE_SIZE, MAX_SYMBOLS};
 ghost use Rattle.spu_elf.specs.declared.constants.TheConstants.{RELA_SIZE, SHDR_SIZE};
@@ -11,9 +11,9 @@ ghost use Rattle.spu_elf.specs.Executables.{exec_fault, exec_in};
 ghost use Rattle.spu_elf.specs.Validity.{IsValidExec};
 ghost use Rattle.spu_cesof.specs.declared.constants.TheConstants.{IMAGE_ALIGN};
 ghost use Rattle.spu_cesof.specs.declared.faults.CesofFault.TheVariants as faults;
-ghost use Rattle.spu_cesof.specs.Answers.{Says, IsEmbedded};
+ghost use Rattle.spu_cesof.specs.Answers.{Says, IsEmbedded, Unpacks};
 ghost use Rattle.spu_cesof.specs.Bounds.{IsFar, IsInside};
-ghost use Rattle.spu_cesof.specs.Embedding.{entry_names, toe_relocs};
+ghost use Rattle.spu_cesof.specs.Embedding.{entry_names, toe_relocs, Embeds};
 ghost use Rattle.spu_cesof.specs.Outline.{places_in, image_of, section_count};
 ghost use Rattle.spu_cesof.specs.Unpacking.{name_in, entry_names_in, joined, symbols_check, strings_check, end_check, object_check, handle_check, toe_check, found, fault_with, cesof_fault, image_in};
 
@@ -251,11 +251,11 @@ fn image_in(alloc: Global, bytes: &[u8]) -> Result<Bytes, CesofFault>
 /// names of symbols and of sections; the end of the file; the executable, as `spu_elf::read_exec`
 /// judges it; the handle and its relocations; and the table of effective addresses: its bytes, its
 /// relocations, its names as far as the executable has entries, and last their number.
-
 pub fn unpack(alloc: Global, bytes: &[u8]) -> Result<Bytes, CesofFault>
     ensures value { IfOk result (λ file. file ≡ image_in bytes.now) }
     ensures fault { Says result (cesof_fault bytes.now) }
     ensures embeds { IfOk result (λ file. IsEmbedded file bytes.now) }
+    ensures takes_out { (name file : List ℕ) → Embeds name file bytes.now → Unpacks bytes.now file }
 {
     image_in(alloc, bytes)
 }

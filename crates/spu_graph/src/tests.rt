@@ -18,6 +18,33 @@ fn four(alloc: Global) -> Result<Graph, OutOfMemory>
     Graph::new(alloc, &frames)
 }
 
+/// How many functions call the next one in a long chain.
+const CHAIN: u32 = 60_000;
+
+/// The graph of that chain, of frames of 4 bytes.
+fn chain(alloc: Global) -> Result<Graph, OutOfMemory>
+    ensures { IfOk result (λ g. length (frames_of g) ≡ CHAIN) }
+{
+    let mut frames = Seq::new(alloc);
+    for _ in 0..CHAIN {
+        frames.push(4)?;
+    }
+    let mut graph = Graph::new(alloc, &frames)?;
+    for f in 1..CHAIN {
+        graph.add_edge(f - 1, f, true)?;
+    }
+    Ok(graph)
+}
+
+#[test]
+fn a_long_chain_needs_all_frames(rt: HostRuntime) -> Result<(), Fail> {
+    let graph = chain(rt.alloc()).ok().ok_or("memory")?;
+    let needs = graph.needs(rt.alloc(), 0).ok().ok_or("no needs")?;
+    assert_eq!(rt; needs.need(0), Some(240_000));
+    assert_eq!(rt; needs.need(59_999), Some(4));
+    Ok(())
+}
+
 #[test]
 fn the_greatest_path_counts(rt: HostRuntime) -> Result<(), Fail> {
     let mut graph = four(rt.alloc()).ok().ok_or("memory")?;

@@ -49,7 +49,7 @@ set_held [] i b d ea n e l = refl
 set_held (a ∷ areas) zero b d ea n e l = ap (λ c. c || some_holds ea n (map stretch_of areas)) (same_held ea n a b e l)
 set_held (a ∷ areas) (suc i) b d ea n e l = ap (λ c. holds_range ea n (stretch_of a) || c) (set_held areas i b d ea n e l)
 
-same_some : (ea : ℕ) (bytes : List ℕ) (areas : List Area) (e n : ℕ) → some_holds e n (map stretch_of (written ea bytes areas)) ≡ some_holds e n (map stretch_of areas)
+pub same_some : (ea : ℕ) (bytes : List ℕ) (areas : List Area) (e n : ℕ) → some_holds e n (map stretch_of (written ea bytes areas)) ≡ some_holds e n (map stretch_of areas)
 same_some ea bytes areas e n = by_first (first_holding ea (length bytes) areas) refl
   where
     none : Area

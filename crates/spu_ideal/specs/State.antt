@@ -3,6 +3,7 @@
 -- of the symbolic machine; what instructions do is SPU ISA 1.2.)
 use Rattle.std.specs.Prelude.{ℕ, ◌+◌, ◌==◌, ◌&&◌, nat_le, if◌then◌else◌, List, Option, Some, None}
 use Rattle.spu_word.specs.declared.load.Area.{Area}
+use Rattle.spu_exec.specs.declared.channels.TheConstants.{MFC_LSA, MFC_TAG_ID}
 use Rattle.spu_exec.specs.declared.transfers.Transfer.{Transfer}
 use Rattle.spu_lift.specs.declared.program.SymInst.{SymInst}
 use Rattle.spu_lift.specs.declared.program.Prog.{Prog}
@@ -43,13 +44,13 @@ put t quad regs = λ k. if k == t then quad else regs k
 abbrev pub put_word : ℕ → ℕ → (ℕ → Option ℕ) → ℕ → Option ℕ
 put_word n word channels = λ k. if k == n then Some word else channels k
 
--- what a call, a return and a jump to another function leave unknown: the loader's registers, the channels of transfers, and the
--- update
+-- what a call, a return and a jump to another function leave unknown: the loader's registers, the channels that tell of a transfer,
+-- and the update
 abbrev pub forgotten_regs : (ℕ → List SymByte) → ℕ → List SymByte
 forgotten_regs regs = λ k. if nat_le FIRST_LOADER_REGISTER k && nat_le k LAST_LOADER_REGISTER then unknown_quad else regs k
 
 abbrev pub forgotten_channels : (ℕ → Option ℕ) → ℕ → Option ℕ
-forgotten_channels channels = λ n. None
+forgotten_channels channels = λ n. if nat_le MFC_LSA n && nat_le n MFC_TAG_ID then None else channels n
 
 abbrev pub forgets : Sym → Sym
 forgets s = record s { regs = forgotten_regs s.regs; channels = forgotten_channels s.channels; update = UnknownUpdate }

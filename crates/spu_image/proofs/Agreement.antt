@@ -1,5 +1,5 @@
 -- Symbolic quads that agree with quads of bytes.
-use Rattle.std.proofs.Common.{◌≡◌, ℕ, zero, suc, ◌+◌, ◌*◌, ◌^◌, ◌<◌, ◌⊎◌, List, [], ◌∷◌, get_or, map, Some, refl, sym, ap, ap₂, ◌∙◌, subst, arith, inl, inr, Bool, true, false, cond}
+use Rattle.std.proofs.Common.{◌≡◌, ℕ, zero, suc, ◌+◌, ◌*◌, ◌^◌, ◌<◌, ◌≤◌, ◌⊎◌, List, [], ◌∷◌, get_or, map, Option, Some, None, refl, sym, ap, ap₂, ◌∙◌, subst, arith, inl, inr, Bool, true, false, cond}
 use Rattle.std.specs.Prelude.{◌==◌, ◌&&◌, nat_le}
 use Rattle.std.proofs.lemmas.List.FromFn.{get_or-map-range_with_len}
 use Rattle.std.proofs.lemmas.Bool.{and_parts, eqb-true, cond_both, cond-true}
@@ -16,8 +16,9 @@ use Rattle.spu_lift.specs.declared.symbolic.SymByte.{SymByte}
 use Rattle.spu_lift.specs.declared.symbolic.SymByte.TheVariants.{Num, Part, Unknown}
 use Rattle.spu_ideal.specs.Bytes.{sym_at, numbers, sixteen, link_of, unknown_quad, is_number, number_of, number_in, known_word, same_label, is_part, are_parts, is_link}
 use Rattle.spu_ideal.specs.Results.{are_known, computed_byte}
-use Rattle.spu_ideal.specs.State.{forgotten_regs}
-use Rattle.spu_image.specs.Agreeing.{Agrees, AgreesQuad}
+use Rattle.spu_exec.specs.declared.channels.TheConstants.{MFC_LSA, MFC_TAG_ID}
+use Rattle.spu_ideal.specs.State.{forgotten_regs, forgotten_channels}
+use Rattle.spu_image.specs.Agreeing.{Agrees, AgreesQuad, AgreesWord}
 
 -- byte k of a quad that a function gives
 pub sym_at-sixteen : (f : ℕ → SymByte) (k : ℕ) → k < 16 → sym_at (sixteen f) k ≡ f k
@@ -46,6 +47,10 @@ agrees_cond p false s t q r h j = j
 
 pub agrees_forgotten : (p : Label → List ℕ) (regs : ℕ → List SymByte) (q : ℕ → List ℕ) → ((r : ℕ) → AgreesQuad p (regs r) (q r)) → (r : ℕ) → AgreesQuad p (forgotten_regs regs r) (q r)
 agrees_forgotten p regs q h r = cond_both (nat_le 75 r && nat_le r 79) _ _ (λ s. AgreesQuad p s (q r)) (λ t. agrees_unknown p (q r)) (λ t. h r)
+
+-- what the channels of transfers hold, where they are forgotten
+pub words_forgotten : (channels : ℕ → Option ℕ) (words : ℕ → ℕ) → ((n : ℕ) → MFC_LSA ≤ n → n ≤ MFC_TAG_ID → AgreesWord (channels n) (words n)) → (n : ℕ) → MFC_LSA ≤ n → n ≤ MFC_TAG_ID → AgreesWord (forgotten_channels channels n) (words n)
+words_forgotten channels words h n low high = cond_both (nat_le MFC_LSA n && nat_le n MFC_TAG_ID) None (channels n) (λ o. AgreesWord o (words n)) (λ is. tt) (λ is. h n low high)
 
 -- ---- words
 

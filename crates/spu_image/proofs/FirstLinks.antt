@@ -1,7 +1,6 @@
 -- What the parts of a link make of one object of the first form.
 use Rattle.std.proofs.Common.{◌≡◌, ℕ, ◌+◌, ◌-◌, ◌*◌, ◌^◌, ◌<◌, ◌≤◌, List, [], ◌∷◌, length, refl, sym, ap, ◌∙◌, subst, arith}
 use Rattle.std.proofs.lemmas.List.Sums.{sum_by-cons}
-use Rattle.spu_word.specs.declared.limits.TheConstants.{DATA_START}
 use Rattle.spu_elf.specs.declared.objects.Section.{Section}
 use Rattle.spu_elf.specs.declared.objects.Object.{Object}
 use Rattle.spu_elf.specs.declared.objects.Symbol.{Symbol}
@@ -21,7 +20,7 @@ use Rattle.spu_layout.specs.declared.layout.Layout as held
 use Rattle.spu_layout.specs.Placing.{FitsFlat, layout_of, section_sizes, sizes_of, at}
 use Rattle.spu_layout.specs.Views.{function_count, layout_in}
 use Rattle.spu_layout.proofs.Flats.{planned}
-use Rattle.spu_image.specs.Images.{IsFlatExec}
+use Rattle.spu_image.specs.Images.{IsFlatExec, untold}
 use Rattle.spu_image.specs.Filling.{IsLaidOut}
 use Rattle.spu_image.specs.Linking.{IsLinked, no_frames}
 use Rattle.spu_image.proofs.Roots.{segment_ends}
@@ -52,21 +51,15 @@ module _ (o : Object) (first : IsFirst o) (p : Prog) (stands : StandsFor o p) wh
   pub small : flat_end p.data_end (sizes_of p) < 2 ^ 32
   small = subst (λ p. flat_end p.data_end (sizes_of p) < 2 ^ 32) (sym stands.is) (let e = end_is in let most = form.most in omega arith)
 
-  pub data_end_is : p.data_end ≡ DATA_START
-  data_end_is = ap (λ (p : Prog). p.data_end) stands.is
-
-  pub no_globals : p.globals ≡ []
-  no_globals = ap (λ (p : Prog). p.globals) stands.is
-
   pub fits : (plan : Plan) → plan ≡ flat_plan p.data_end (sizes_of p) → FitsFlat p plan 16384
   fits plan e = record {
     planned = e;
     below = subst (λ (q : Plan). q.end ≤ 262112 - 16384) (sym e) (subst (λ p. (planned p).end ≤ 262112 - 16384) (sym stands.is) (let e = end_is in let most = form.most in omega arith));
   }
 
-  module _ (plan : Plan) (is_plan : plan ≡ flat_plan p.data_end (sizes_of p)) (x : Exec) (image : IsFlatExec p (layout_of p plan 16384) 16384 x) where
-    image_q : IsFlatExec q (layout_of q (planned q) 16384) 16384 x
-    image_q = subst (λ p. IsFlatExec p (layout_of p (planned p) 16384) 16384 x) stands.is (subst (λ plan. IsFlatExec p (layout_of p plan 16384) 16384 x) is_plan image)
+  module _ (plan : Plan) (is_plan : plan ≡ flat_plan p.data_end (sizes_of p)) (x : Exec) (image : IsFlatExec p (layout_of p plan 16384) 16384 untold x) where
+    image_q : IsFlatExec q (layout_of q (planned q) 16384) 16384 untold x
+    image_q = subst (λ p. IsFlatExec p (layout_of p (planned p) 16384) 16384 untold x) stands.is (subst (λ plan. IsFlatExec p (layout_of p plan 16384) 16384 untold x) is_plan image)
 
     pub valid : IsValidExec x
     valid =
@@ -94,7 +87,7 @@ module _ (o : Object) (first : IsFirst o) (p : Prog) (stands : StandsFor o p) wh
       image = image;
       valid = valid;
       file = is_file;
-      headline = flat_headline p no_frames 0 (first_judged o p first stands) plan 16384 (omega arith) (fits plan is_plan) x file image;
+      headline = flat_headline p no_frames 0 (first_judged o p first stands) plan 16384 (omega arith) (fits plan is_plan) untold x file image;
     }
 
 -- ---- of what the code has
@@ -107,15 +100,15 @@ pub laid_out : (o : Object) (first : IsFirst o) (p : Prog) (stands : StandsFor o
 laid_out o first p stands limit e plan is_plan layout is count =
     record { plan = plan; limit = limit; well = formed o first p stands; fits = subst (FitsFlat p plan) (sym e) (fits o first p stands plan is_plan); is = is; functions = count }
 
-image_at : (p : Prog) (plan : Plan) (limit : ℕ) (layout : held.Layout) (x : Exec) → limit ≡ 16384 → layout_in layout ≡ layout_of p plan limit → IsFlatExec p (layout_in layout) limit x → IsFlatExec p (layout_of p plan 16384) 16384 x
-image_at p plan limit layout x e is image = subst (λ n. IsFlatExec p (layout_of p plan n) n x) e (subst (λ l. IsFlatExec p l limit x) is image)
+image_at : (p : Prog) (plan : Plan) (limit : ℕ) (layout : held.Layout) (x : Exec) → limit ≡ 16384 → layout_in layout ≡ layout_of p plan limit → IsFlatExec p (layout_in layout) limit untold x → IsFlatExec p (layout_of p plan 16384) 16384 untold x
+image_at p plan limit layout x e is image = subst (λ n. IsFlatExec p (layout_of p plan n) n untold x) e (subst (λ l. IsFlatExec p l limit untold x) is image)
 
 pub exec_is_valid : (o : Object) (first : IsFirst o) (p : Prog) (stands : StandsFor o p) (limit : ℕ) → limit ≡ 16384 → (plan : Plan) → plan ≡ flat_plan p.data_end (sizes_of p) → (layout : held.Layout) → layout_in layout ≡ layout_of p plan limit
-    → (x : Exec) → IsFlatExec p (layout_in layout) limit x → IsValidExec x
+    → (x : Exec) → IsFlatExec p (layout_in layout) limit untold x → IsValidExec x
 exec_is_valid o first p stands limit e plan is_plan layout is x image = valid o first p stands plan is_plan x (image_at p plan limit layout x e is image)
 
 pub link_is : (o : Object) (first : IsFirst o) (p : Prog) (stands : StandsFor o p) (limit : ℕ) → limit ≡ 16384 → (plan : Plan) → plan ≡ flat_plan p.data_end (sizes_of p) → (layout : held.Layout) → layout_in layout ≡ layout_of p plan limit
-    → function_count layout ≡ length p.functions → (x : Exec) → IsFlatExec p (layout_in layout) limit x → (file : List ℕ) → file ≡ spell_exec x → IsLinked (o ∷ []) limit (record { exec = x; file = file; prog = p; plan = plan; layout = layout })
+    → function_count layout ≡ length p.functions → (x : Exec) → IsFlatExec p (layout_in layout) limit untold x → (file : List ℕ) → file ≡ spell_exec x → IsLinked (o ∷ []) limit (record { exec = x; file = file; prog = p; plan = plan; layout = layout })
 link_is o first p stands limit e plan is_plan layout is count x image file is_file =
     subst (λ n. IsLinked (o ∷ []) n (record { exec = x; file = file; prog = p; plan = plan; layout = layout })) (sym e)
     (linked_is o first p stands plan is_plan x (image_at p plan limit layout x e is image) layout (is ∙ ap (layout_of p plan) e) count file is_file)

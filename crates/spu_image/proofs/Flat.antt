@@ -20,7 +20,7 @@ use Rattle.spu_image.proofs.Sound.{IsBounded}
 use Rattle.spu_image.specs.Matching.{Matches}
 use Rattle.spu_ideal.specs.Promises.{IsHigh}
 use Rattle.spu_image.proofs.Promised.{Inside, Stepped}
-use Rattle.spu_image.proofs.Agreement.{agrees_cond, agrees_link, agrees_forgotten, link_leads}
+use Rattle.spu_image.proofs.Agreement.{agrees_cond, agrees_link, agrees_forgotten, words_forgotten, link_leads}
 use Rattle.spu_image.proofs.Leaving.{leads_to, IsWay, Ways}
 use Rattle.spu_image.proofs.Steps.{next_is, going, goes_hop}
 
@@ -47,7 +47,7 @@ module _ (p : Prog) (limit : ℕ) (l : Layout) (laid : IsLaid p limit l) (flat :
         place = is y e;
         regs = agrees_forgotten (code l) s.regs m.regs matched.regs;
         store = matched.store;
-        channels = λ n low high. tt;
+        channels = words_forgotten s.channels m.channels matched.channels;
         mask = matched.mask;
         update = tt;
         queue = matched.queue;
@@ -74,7 +74,7 @@ module _ (p : Prog) (limit : ℕ) (l : Layout) (laid : IsLaid p limit l) (flat :
         place = is y e;
         regs = agrees_forgotten (code l) _ _ (λ r. agrees_cond (code l) (r == 0) _ _ _ _ link_agrees (matched.regs r));
         store = matched.store;
-        channels = λ n low high. tt;
+        channels = words_forgotten s.channels m.channels matched.channels;
         mask = matched.mask;
         update = tt;
         queue = matched.queue;

@@ -40,7 +40,7 @@ parts_below : (from : ℕ) (parts : List section.Part) (end : ℕ) → AreInOrde
 parts_below from [] end h = tt
 parts_below from (x ∷ xs) end h = (ends_behind (x.address + x.size) xs end h.1, parts_below (x.address + x.size) xs end h.1)
 
-part_at : (from : ℕ) (parts : List section.Part) (end : ℕ) → AreInOrder from parts end → (k : ℕ) (x : section.Part) → k < length parts → get_or parts k x ≡ x → (from ≤ x.address) × (x.address + x.size ≤ end)
+pub part_at : (from : ℕ) (parts : List section.Part) (end : ℕ) → AreInOrder from parts end → (k : ℕ) (x : section.Part) → k < length parts → get_or parts k x ≡ x → (from ≤ x.address) × (x.address + x.size ≤ end)
 part_at from [] end h k x lt e = absurd (omega arith)
 part_at from (y ∷ ys) end h zero x lt e =
     let low = h.0 in
@@ -74,7 +74,7 @@ data_of p well = record {
 -- ---- an executable with the flat plan
 
 module _ (p : Prog) (frames : ℕ → ℕ) (need : ℕ) (judged : IsJudged p frames need) (limit : ℕ) (least : need ≤ limit) (below : (planned p).end ≤ STACK_TOP - limit)
-    (x : Exec) (file : List ℕ) (image : IsFlatExec p (layout_of p (planned p) limit) limit x) where
+    (told : ℕ → Option ℕ) (x : Exec) (file : List ℕ) (image : IsFlatExec p (layout_of p (planned p) limit) limit told x) where
   abbrev l : Layout
   l = layout_of p (planned p) limit
 
@@ -88,10 +88,10 @@ module _ (p : Prog) (frames : ℕ → ℕ) (need : ℕ) (judged : IsJudged p fra
   flat = flat_is_flat p (planned p) limit fits
 
   entries : entries_of x.symbols ≡ map entry_of p.ears
-  entries = ap entries_of image.symbols ∙ entries_are_ears p l judged.formed
+  entries = ap entries_of image.symbols ∙ entries_are_ears p l told judged.formed
 
   unnamed : image_place x.symbols ≡ None
-  unnamed = ap image_place image.symbols ∙ no_image p l judged.formed
+  unnamed = ap image_place image.symbols ∙ no_image p l told judged.formed
 
   has : HasData p
   has = data_of p judged.formed
@@ -135,8 +135,8 @@ module _ (p : Prog) (frames : ℕ → ℕ) (need : ℕ) (judged : IsJudged p fra
   planned_headline = record { each = λ inputs can n inside. each_start inputs can n inside; apart = laid.apart }
 
 -- an executable of the program by a flat plan
-pub flat_headline : (p : Prog) (frames : ℕ → ℕ) (need : ℕ) → IsJudged p frames need → (plan : Plan) (limit : ℕ) → need ≤ limit → FitsFlat p plan limit → (x : Exec) (file : List ℕ) → IsFlatExec p (layout_of p plan limit) limit x
+pub flat_headline : (p : Prog) (frames : ℕ → ℕ) (need : ℕ) → IsJudged p frames need → (plan : Plan) (limit : ℕ) → need ≤ limit → FitsFlat p plan limit → (told : ℕ → Option ℕ) (x : Exec) (file : List ℕ) → IsFlatExec p (layout_of p plan limit) limit told x
     → Headline p (layout_of p plan limit) frames limit need x file
-flat_headline p frames need judged plan limit least fits x file image =
+flat_headline p frames need judged plan limit least fits told x file image =
     subst (λ q. Headline p (layout_of p q limit) frames limit need x file) (sym fits.planned)
-    (planned_headline p frames need judged limit least (subst (λ (q : Plan). q.end ≤ STACK_TOP - limit) fits.planned fits.below) x file (subst (λ q. IsFlatExec p (layout_of p q limit) limit x) fits.planned image))
+    (planned_headline p frames need judged limit least (subst (λ (q : Plan). q.end ≤ STACK_TOP - limit) fits.planned fits.below) told x file (subst (λ q. IsFlatExec p (layout_of p q limit) limit told x) fits.planned image))

@@ -1,12 +1,13 @@
 -- The symbols of a well-formed program's flat executable name its named areas, and no place of the executable's file.
-use Rattle.std.proofs.Common.{◌≡◌, ℕ, suc, Bool, true, false, List, [], ◌∷◌, ◌++◌, length, take, drop, map, filter, Some, None, refl, sym, ap, ◌∙◌, subst, append_assoc, arith, inl, inr, codes, ◌⊎◌}
-use Rattle.std.specs.Prelude.{◌≢◌, ◌&&◌, not, if◌then◌else◌, nat_eq, nat_lt, slice_get}
+use Rattle.std.proofs.Common.{◌≡◌, ℕ, suc, Bool, true, false, List, [], ◌∷◌, ◌++◌, length, take, drop, map, filter, Option, Some, None, refl, sym, ap, ◌∙◌, subst, append_assoc, arith, inl, inr, codes, ◌⊎◌}
+use Rattle.std.specs.Prelude.{◌≢◌, ◌&&◌, not, if◌then◌else◌, nat_eq, nat_le, nat_lt, slice_get}
 use Rattle.std.specs.List.{Contains, list_any, starts_with}
 use Rattle.std.specs.Str.{bytes_eq}
-use Rattle.std.proofs.lemmas.Bool.{cases_Bool}
+use Rattle.std.proofs.lemmas.Bool.{cases_Bool, cond_both}
 use Rattle.std.proofs.lemmas.Bool.Decides.{nat_tests}
 use Rattle.std.proofs.lemmas.List.Elements.{filter-append}
 use Rattle.std.proofs.lemmas.Slice.Eq.{bytes_eq-Decides}
+use Rattle.spu_word.specs.declared.limits.TheConstants.{MAX_NAME_SIZE}
 use Rattle.spu_elf.specs.declared.objects.Symbol.{Symbol}
 use Rattle.spu_elf.specs.declared.objects.SymKind.TheVariants as kinds
 use Rattle.spu_elf.specs.declared.objects.SymPlace.TheVariants as places
@@ -19,7 +20,7 @@ use Rattle.spu_ls.specs.Entries.{is_object, is_entry, is_image_ea, entries_of, i
 use Rattle.spu_ls.specs.Entries as symbols
 use Rattle.spu_ideal.specs.Machine.{entry_of}
 use Rattle.spu_layout.specs.Layouts.{Layout}
-use Rattle.spu_image.specs.Images.{function_symbol, function_symbols, is_ear, data_kind, data_symbol, symbols_of}
+use Rattle.spu_image.specs.Images.{function_symbol, function_symbols, is_ear, data_kind, data_symbol, stack_name, stack_symbol, stack_symbol_by, stack_symbols, symbols_of}
 
 -- ---- functions
 
@@ -51,10 +52,32 @@ functions_have_no_image l test f (g ∷ gs) rest = elim (cases_Bool (test g)) [
   | inr other ↦ rw other (functions_have_no_image l test (suc f) gs rest)
 ]
 
+-- ---- stack symbols
+
+stack_enters_nothing : (name : List ℕ) (need : Option ℕ) → filter is_entry (stack_symbol_by name need) ≡ []
+stack_enters_nothing name None = refl
+stack_enters_nothing name (Some need) = cond_both (nat_le (length name) MAX_NAME_SIZE) (stack_symbol name need ∷ []) [] (λ ss. filter is_entry ss ≡ []) (λ t. refl) (λ t. refl)
+
+stacks_enter_nothing : (told : ℕ → Option ℕ) (f : ℕ) (gs : List Function) → filter is_entry (stack_symbols told f gs) ≡ []
+stacks_enter_nothing told f [] = refl
+stacks_enter_nothing told f (g ∷ gs) =
+    filter-append is_entry (stack_symbol_by (stack_name f g) (told f)) (stack_symbols told (suc f) gs)
+    ∙ ap (λ xs. xs ++ filter is_entry (stack_symbols told (suc f) gs)) (stack_enters_nothing (stack_name f g) (told f)) ∙ stacks_enter_nothing told (suc f) gs
+
+stack_has_no_image : (name : List ℕ) (need : Option ℕ) (rest : List Symbol) → image_place (stack_symbol_by name need ++ rest) ≡ image_place rest
+stack_has_no_image name None rest = refl
+stack_has_no_image name (Some need) rest = cond_both (nat_le (length name) MAX_NAME_SIZE) (stack_symbol name need ∷ []) [] (λ ss. image_place (ss ++ rest) ≡ image_place rest) (λ t. refl) (λ t. refl)
+
+stacks_have_no_image : (told : ℕ → Option ℕ) (f : ℕ) (gs : List Function) (rest : List Symbol) → image_place (stack_symbols told f gs ++ rest) ≡ image_place rest
+stacks_have_no_image told f [] rest = refl
+stacks_have_no_image told f (g ∷ gs) rest =
+    ap image_place (append_assoc (stack_symbol_by (stack_name f g) (told f)) (stack_symbols told (suc f) gs) rest)
+    ∙ stack_has_no_image (stack_name f g) (told f) (stack_symbols told (suc f) gs ++ rest) ∙ stacks_have_no_image told (suc f) gs rest
+
 -- ---- which global symbols name areas
 
 -- a name is that of an area's symbol
-abbrev Names : List ℕ → List Ear → Type 0
+abbrev pub Names : List ℕ → List Ear → Type 0
 Names name [] = ⊥
 Names name (e ∷ es) = (name ≡ codes "_EAR_" ++ e.name) ⊎ Names name es
 
@@ -65,7 +88,7 @@ names_of name (e ∷ es) h = elim (cases_Bool (bytes_eq name (codes "_EAR_" ++ e
   | inr other ↦ inr (names_of name es (rw other at h))
 ]
 
-named_by : (name : List ℕ) (es : List Ear) → Names name es → list_any (λ (e : Ear). bytes_eq name (codes "_EAR_" ++ e.name)) es ≡ true
+pub named_by : (name : List ℕ) (es : List Ear) → Names name es → list_any (λ (e : Ear). bytes_eq name (codes "_EAR_" ++ e.name)) es ≡ true
 named_by name [] h = absurd h
 named_by name (e ∷ es) h = elim h [
   | inl is ↦ (let one : bytes_eq name (codes "_EAR_" ++ e.name) ≡ true = (bytes_eq-Decides name (codes "_EAR_" ++ e.name)).1 is in rw one refl)
@@ -76,13 +99,13 @@ named_by name (e ∷ es) h = elim h [
 ]
 
 -- the global symbol of such a name
-record Owner (name : List ℕ) (gs : List Global_) : Type 0 where
-  at : ℕ
-  g : Global_
-  there : slice_get gs at ≡ Some g
-  named : g.name ≡ name
+pub record Owner (name : List ℕ) (gs : List Global_) : Type 0 where
+  pub at : ℕ
+  pub g : Global_
+  pub there : slice_get gs at ≡ Some g
+  pub named : g.name ≡ name
 
-owner : (name : List ℕ) (gs : List Global_) (es : List Ear) → AreEars gs es → Names name es → Owner name gs
+pub owner : (name : List ℕ) (gs : List Global_) (es : List Ear) → AreEars gs es → Names name es → Owner name gs
 owner name gs [] h n = absurd n
 owner name [] (e ∷ es) h n = absurd h
 owner name (g ∷ gs) (e ∷ es) h n = elim h [
@@ -134,16 +157,16 @@ passed name address size rest = elim (cases_Bool (starts_with nat_eq name (codes
       ∙ ap (λ b. nat_lt 5 (length name) && b) (no_prefix name other) ∙ never (nat_lt 5 (length name))))
 ]
 
-tail : (g : Global_) (gs : List Global_) → AreDistinct (g ∷ gs) → AreDistinct gs
+pub tail : (g : Global_) (gs : List Global_) → AreDistinct (g ∷ gs) → AreDistinct gs
 tail g gs d = λ i j a b ea eb n. (let e = d (suc i) (suc j) a b ea eb n in omega (arith, e))
 
-no_ears : (gs : List Global_) → AreEars gs []
+pub no_ears : (gs : List Global_) → AreEars gs []
 no_ears [] = tt
 no_ears (g ∷ gs) = tt
 
 module _ (p : Prog) where
   -- where g is none of these names' symbols
-  unnamed : (g : Global_) (gs : List Global_) (es : List Ear) → AreDistinct (g ∷ gs) → AreEars gs es → (Names g.name p.ears → Names g.name es) → is_ear p g ≡ false
+  pub unnamed : (g : Global_) (gs : List Global_) (es : List Ear) → AreDistinct (g ∷ gs) → AreEars gs es → (Names g.name p.ears → Names g.name es) → is_ear p g ≡ false
   unnamed g gs es d h down = not_true (is_ear p g) (λ is. (
       let o = owner g.name gs es h (down (names_of g.name p.ears is)) in
       let e = d (suc o.at) 0 o.g g o.there refl o.named in
@@ -178,9 +201,12 @@ module _ (p : Prog) where
       let none : is_image_ea (data_symbol p g) ≡ false = ap (λ b. is_object (data_kind p g) && b) other ∙ never (is_object (data_kind p g)) in
       elsewhere (data_symbol p g) (map (λ (g : Global_). data_symbol p g) gs) none ∙ data_has_no_image gs (λ k c. (let lt = c.1 in h k (suc c.0, omega arith, c.2))))
 
-  module _ (l : Layout) (well : IsWellFormed p) where
+  module _ (l : Layout) (told : ℕ → Option ℕ) (well : IsWellFormed p) where
     abbrev local_symbols : List Symbol
     local_symbols = function_symbols l (λ (g : Function). not g.global) 1 (drop 1 p.functions)
+
+    abbrev told_symbols : List Symbol
+    told_symbols = stack_symbols told 1 (drop 1 p.functions)
 
     abbrev global_symbols : List Symbol
     global_symbols = function_symbols l (λ (g : Function). g.global) 1 (drop 1 p.functions)
@@ -188,18 +214,25 @@ module _ (p : Prog) where
     abbrev data_symbols : List Symbol
     data_symbols = map (λ (g : Global_). data_symbol p g) p.globals
 
-    pub entries_are_ears : entries_of (symbols_of p l) ≡ map entry_of p.ears
+    pub parts_of_symbols : symbols_of p l told ≡ local_symbols ++ (told_symbols ++ (global_symbols ++ data_symbols))
+    parts_of_symbols =
+        append_assoc (local_symbols ++ told_symbols) global_symbols data_symbols ∙ append_assoc local_symbols told_symbols (global_symbols ++ data_symbols)
+
+    pub entries_are_ears : entries_of (symbols_of p l told) ≡ map entry_of p.ears
     entries_are_ears =
-        ap entries_of (append_assoc local_symbols global_symbols data_symbols)
+        ap entries_of parts_of_symbols
         ∙ ap (map symbols.entry_of)
-        (filter-append is_entry local_symbols (global_symbols ++ data_symbols)
-        ∙ ap (λ xs. xs ++ filter is_entry (global_symbols ++ data_symbols)) (functions_enter_nothing l (λ (g : Function). not g.global) 1 (drop 1 p.functions))
+        (filter-append is_entry local_symbols (told_symbols ++ (global_symbols ++ data_symbols))
+        ∙ ap (λ xs. xs ++ filter is_entry (told_symbols ++ (global_symbols ++ data_symbols))) (functions_enter_nothing l (λ (g : Function). not g.global) 1 (drop 1 p.functions))
+        ∙ filter-append is_entry told_symbols (global_symbols ++ data_symbols)
+        ∙ ap (λ xs. xs ++ filter is_entry (global_symbols ++ data_symbols)) (stacks_enter_nothing told 1 (drop 1 p.functions))
         ∙ filter-append is_entry global_symbols data_symbols
         ∙ ap (λ xs. xs ++ filter is_entry data_symbols) (functions_enter_nothing l (λ (g : Function). g.global) 1 (drop 1 p.functions)))
         ∙ all_enter p.globals p.ears well.distinct well.ears_are_global (λ n h. h) (λ j g there h. h)
 
-    pub no_image : image_place (symbols_of p l) ≡ None
+    pub no_image : image_place (symbols_of p l told) ≡ None
     no_image =
-        ap image_place (append_assoc local_symbols global_symbols data_symbols)
-        ∙ functions_have_no_image l (λ (g : Function). not g.global) 1 (drop 1 p.functions) (global_symbols ++ data_symbols)
+        ap image_place parts_of_symbols
+        ∙ functions_have_no_image l (λ (g : Function). not g.global) 1 (drop 1 p.functions) (told_symbols ++ (global_symbols ++ data_symbols))
+        ∙ stacks_have_no_image told 1 (drop 1 p.functions) (global_symbols ++ data_symbols)
         ∙ functions_have_no_image l (λ (g : Function). g.global) 1 (drop 1 p.functions) data_symbols ∙ data_has_no_image p.globals (λ g c. (well.globals g c).free)

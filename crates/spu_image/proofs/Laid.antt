@@ -15,6 +15,7 @@ use Rattle.spu_lift.specs.declared.program.Prog.{Prog}
 use Rattle.spu_lift.specs.Places.{place_in, IsPlace}
 use Rattle.spu_lift.specs.StartCode.{of_register, symbolic}
 use Rattle.spu_lift.specs.WellFormed.{IsCallee, IsWellFormed, IsOperand, IsTakenTarget, takes_number, takes_label}
+use Rattle.spu_plan.specs.declared.plan.Plan.{Plan}
 use Rattle.spu_layout.specs.declared.layout.Layout as held
 use Rattle.spu_layout.specs.declared.layout.Span.{Span}
 use Rattle.spu_layout.specs.Layouts.{Layout, IsLaid, IsFlat}
@@ -32,6 +33,13 @@ module _ (p : Prog) (layout : held.Layout) (out : IsLaidOut p layout) where
 
   pub flat_by : IsFlat (layout_in layout)
   flat_by = subst IsFlat (sym out.is) (flat_is_flat p out.plan out.limit out.fits)
+
+  -- data ends in the local store
+  pub data_low : p.data_end ≤ STORE_SIZE
+  data_low =
+      let below = out.fits.below in
+      let end = ap (λ (q : Plan). q.end) out.fits.planned in
+      omega (arith, below, end)
 
   -- places lie in the local store, and so does what labels lead to
   pub inside : (f i : ℕ) → IsPlace p f i → (layout_in layout).at f i ≤ STORE_SIZE

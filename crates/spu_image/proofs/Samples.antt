@@ -36,7 +36,7 @@ use Rattle.spu_word.specs.declared.limits.TheConstants.{STACK_TOP}
 use Rattle.spu_plan.specs.declared.plan.Plan.{Plan}
 use Rattle.spu_layout.specs.Placing.{FitsFlat}
 use Rattle.spu_layout.proofs.Flats.{planned}
-use Rattle.spu_image.specs.Images.{IsLoadSegment, symbols_of}
+use Rattle.spu_image.specs.Images.{IsLoadSegment, symbols_of, untold}
 use Rattle.spu_image.proofs.FirstFiles.{main_symbol, one_segment}
 use Rattle.spu_image.specs.Matching.{SameEnd}
 use Rattle.spu_image.specs.Headline.{CanStart, hops}
@@ -83,7 +83,7 @@ can_start objects limit l h bytes = record {
         let p = l.prog in
         let lay = layout_of l.prog l.plan limit in
         let q = first_program h.program.section.name h.program.section.size h.program.code in
-        let symbols : l.exec.symbols ≡ symbols_of q lay = h.image.symbols ∙ ap (λ p. symbols_of p lay) h.program.is in
+        let symbols : l.exec.symbols ≡ symbols_of q lay untold = h.image.symbols ∙ ap (λ p. symbols_of p lay untold) h.program.is in
         none_of l.exec l.file (lay.at 1 0) (4 * length h.program.code) (one_segment h.image.bytes) symbols h.image.segments (in_store h.image.bytes (room p l.plan limit h.judged.formed h.fits h.image.bytes h.image.holds))
       where
         in_store : (bytes : List ℕ) → 128 + length bytes ≤ 262144 → is_in_store (one_segment bytes) ≡ true

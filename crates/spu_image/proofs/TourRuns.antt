@@ -1,5 +1,5 @@
 -- The promise in general, applied to the sample program that has an instruction of each kind.
-use Rattle.std.proofs.Common.{◌≡◌, ℕ, List, [], ◌∷◌, Some, true, inl, refl, ap₂, ◌∙◌, subst, arith, lit≤}
+use Rattle.std.proofs.Common.{◌≡◌, ℕ, List, [], ◌∷◌, Option, Some, true, inl, refl, ap₂, ◌∙◌, subst, arith, lit≤}
 use Rattle.spu_exec.specs.Tags.{status}
 use Rattle.spu_word.specs.Bytes.{word_of}
 use Rattle.spu_elf.specs.declared.executables.Exec.{Exec}
@@ -51,9 +51,9 @@ stops_inside o = subst IsOutside symbolic.tour_stops o
 
 -- ---- the machine's
 
-module _ (x : Exec) (file : List ℕ) (image : IsFlatExec tours tour_layout 16384 x) (can : CanStart x file nothing) where
+module _ (told : ℕ → Option ℕ) (x : Exec) (file : List ℕ) (image : IsFlatExec tours tour_layout 16384 told x) (can : CanStart x file nothing) where
   headline : Headline tours tour_layout tour_frames 16384 32 x file
-  headline = flat_headline tours tour_frames 32 tour_judged (flat_plan tours.data_end (sizes_of tours)) 16384 (lit≤ tt) (record { planned = refl; below = lit≤ tt }) x file image
+  headline = flat_headline tours tour_frames 32 tour_judged (flat_plan tours.data_end (sizes_of tours)) 16384 (lit≤ tt) (record { planned = refl; below = lit≤ tt }) told x file image
 
   hop_at : (n : ℕ) → IsInside tours tour_frames 16384 nothing n → Hop tours tour_layout tour_frames 16384 32 nothing (starting.start x file nothing) n
   hop_at n inside = headline.each nothing can n inside

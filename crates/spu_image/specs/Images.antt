@@ -1,11 +1,12 @@
 -- The executable of a program in a flat layout. Its one segment is made of parts, one behind the other: the data, the quadword of the
 -- stack pointer, the start code and a zero word, and the sections of code, each filled up with zeros to whole quadwords. Then come its
 -- symbols. (The words are those of the SPU ABI; the order of the parts is this project's own.)
-use Rattle.std.specs.Prelude.{◌≡◌, ℕ, suc, ◌+◌, ◌-◌, ◌*◌, ◌/◌, Bool, true, false, not, if◌then◌else◌, List, [], ◌∷◌, ◌++◌, length, drop, map, codes, nat_eq, Some, slice_get, slice_index, slice_index_or}
+use Rattle.std.specs.Prelude.{◌≡◌, ℕ, suc, ◌+◌, ◌-◌, ◌*◌, ◌/◌, Bool, true, false, not, if◌then◌else◌, List, [], ◌∷◌, ◌++◌, length, drop, map, codes, nat_eq, nat_le, Option, Some, None, slice_get, slice_index, slice_index_or}
 use Rattle.std.specs.List.{range_with_len, flat_map, list_any, starts_with}
 use Rattle.std.specs.Str.{bytes_eq}
+use Rattle.std.specs.Fmt.{digits}
 use Rattle.spu_word.specs.Bytes.{be_digits, quad_of}
-use Rattle.spu_word.specs.declared.limits.TheConstants.{DATA_START, STACK_TOP, WORD_SIZE}
+use Rattle.spu_word.specs.declared.limits.TheConstants.{DATA_START, MAX_NAME_SIZE, STACK_TOP, WORD_SIZE}
 use Rattle.spu_elf.specs.declared.objects.Symbol.{Symbol}
 use Rattle.spu_elf.specs.declared.objects.SymKind.{SymKind}
 use Rattle.spu_elf.specs.declared.objects.SymKind.TheVariants as kinds
@@ -92,23 +93,48 @@ function_symbols l test f (g ∷ gs) = if test g then function_symbol l f g ∷ 
 abbrev pub is_ear : Prog → Global_ → Bool
 is_ear p g = list_any (λ (e : Ear). bytes_eq g.name (codes "_EAR_" ++ e.name)) p.ears
 
+abbrev pub kind_of_data : List ℕ → Bool → SymKind
+kind_of_data name ear = if starts_with nat_eq name (codes "_EAR_") then (if ear then kinds.Object else kinds.Plain) else kinds.Object
+
 abbrev pub data_kind : Prog → Global_ → SymKind
-data_kind p g = if starts_with nat_eq g.name (codes "_EAR_") then (if is_ear p g then kinds.Object else kinds.Plain) else kinds.Object
+data_kind p g = kind_of_data g.name (is_ear p g)
 
 abbrev pub data_symbol : Prog → Global_ → Symbol
 data_symbol p g = record { name = g.name; value = g.address; size = g.size; kind = data_kind p g; global = true; place = places.Inside 0 }
 
--- local functions from 1 on, then global ones, then the global symbols of data
-abbrev pub symbols_of : Prog → Layout → List Symbol
-symbols_of p l =
-    function_symbols l (λ (g : Function). not g.global) 1 (drop 1 p.functions) ++ function_symbols l (λ (g : Function). g.global) 1 (drop 1 p.functions)
-    ++ map (λ (g : Global_). data_symbol p g) p.globals
+-- A stack symbol tells how many bytes of stack a function needs with all that it calls. It has the name that linkers for the SPU give
+-- it, with a local function's number in hexadecimal digits; where that isn't a name's length, there is none.
+abbrev pub stack_name : ℕ → Function → List ℕ
+stack_name f g = if g.global then codes "__stack_" ++ g.name else codes "__stack_" ++ digits 16 false f ++ codes "_" ++ g.name
+
+abbrev pub stack_symbol : List ℕ → ℕ → Symbol
+stack_symbol name need = record { name = name; value = need; size = 0; kind = kinds.Plain; global = false; place = places.Absolute }
+
+abbrev pub stack_symbol_by : List ℕ → Option ℕ → List Symbol
+stack_symbol_by name None = []
+stack_symbol_by name (Some need) = if nat_le (length name) MAX_NAME_SIZE then stack_symbol name need ∷ [] else []
+
+-- those of the functions, from f on, whose needs are told
+abbrev pub stack_symbols : (ℕ → Option ℕ) → ℕ → List Function → List Symbol
+stack_symbols told f [] = []
+stack_symbols told f (g ∷ gs) = stack_symbol_by (stack_name f g) (told f) ++ stack_symbols told (suc f) gs
+
+-- where no stack symbols are asked for
+abbrev pub untold : ℕ → Option ℕ
+untold f = None
+
+-- local functions from 1 on, then stack symbols, global functions, and the global symbols of data
+abbrev pub symbols_of : Prog → Layout → (ℕ → Option ℕ) → List Symbol
+symbols_of p l told =
+    function_symbols l (λ (g : Function). not g.global) 1 (drop 1 p.functions) ++ stack_symbols told 1 (drop 1 p.functions)
+    ++ function_symbols l (λ (g : Function). g.global) 1 (drop 1 p.functions) ++ map (λ (g : Global_). data_symbol p g) p.globals
 
 -- ---- the executable
 
-pub record IsFlatExec (p : Prog) (l : Layout) (limit : ℕ) (x : Exec) : Type 0 where
+-- with the needs of functions that are told
+pub record IsFlatExec (p : Prog) (l : Layout) (limit : ℕ) (told : ℕ → Option ℕ) (x : Exec) : Type 0 where
   pub entry : x.entry ≡ l.at 0 0
   pub bytes : List ℕ
   pub segments : x.segments ≡ record { address = DATA_START; overlay = false; bytes = bytes } ∷ []
   pub holds : IsLoadSegment p l limit bytes
-  pub symbols : x.symbols ≡ symbols_of p l
+  pub symbols : x.symbols ≡ symbols_of p l told

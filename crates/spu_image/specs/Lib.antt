@@ -5,4 +5,5 @@ pub mod Images
 pub mod Headline
 pub mod Filling
 pub mod Linking
+pub mod JudgedLinking
 pub mod Samples

@@ -8,7 +8,7 @@ use Rattle.spu_lift.specs.First.{StandsFor}
 use Rattle.spu_layout.specs.Placing.{FitsFlat, layout_of}
 use Rattle.spu_layout.specs.Views.{function_count, layout_in}
 use Rattle.spu_ideal.specs.States.{IsJudged}
-use Rattle.spu_image.specs.Images.{IsFlatExec}
+use Rattle.spu_image.specs.Images.{IsFlatExec, untold}
 use Rattle.spu_image.specs.Headline.{Headline}
 use Rattle.spu_image.specs.declared.outcome.Linked.{Linked}
 
@@ -31,7 +31,7 @@ pub record IsLinked (objects : List Object) (limit : ℕ) (l : Linked) : Type 0 
   pub fits : FitsFlat l.prog l.plan limit
   pub layout : layout_in l.layout ≡ layout_of l.prog l.plan limit
   pub functions : function_count l.layout ≡ length l.prog.functions
-  pub image : IsFlatExec l.prog (layout_of l.prog l.plan limit) limit l.exec
+  pub image : IsFlatExec l.prog (layout_of l.prog l.plan limit) limit untold l.exec
   pub valid : IsValidExec l.exec
   pub file : l.file ≡ spell_exec l.exec
   pub headline : Headline l.prog (layout_of l.prog l.plan limit) no_frames limit 0 l.exec l.file

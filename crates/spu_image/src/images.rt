@@ -1,10 +1,9 @@
 //! The executable of a program in a flat layout.
 
-ghost use Rattle.std.specs.Prelude.{◌≡◌, [], IfOk};
-ghost use Rattle.spu_word.specs.declared.limits.TheConstants.{DATA_START};
+ghost use Rattle.std.specs.Prelude.{IfOk};
 ghost use Rattle.spu_layout.specs.Views.{layout_in};
 ghost use Rattle.spu_image.specs.Images.{IsFlatExec};
-ghost use Rattle.spu_image.specs.Filling.{IsLaidOut};
+ghost use Rattle.spu_image.specs.Filling.{IsLaidOut, told_in};
 
 use crate::segments::load_segment;
 use crate::symbols::image_symbols;
@@ -15,12 +14,17 @@ use spu_word::limits::DATA_START;
 use spu_word::{OutOfMemory, Seq};
 use std::alloc::Global;
 
-/// The executable of a program without data, with a stack of this many bytes.
-pub fn flat_exec(alloc: Global, p: &Prog, layout: &Layout, limit: u32) -> Result<Exec, OutOfMemory>
-    requires laid { IsLaidOut p.now layout.now }
-    requires no_data { p.now.data_end ≡ DATA_START }
-    requires no_globals { p.now.globals ≡ [] }
-    ensures { IfOk result (IsFlatExec p.now (layout_in layout.now) limit) }
+/// The executable of a program, with a stack of this many bytes, and with stack symbols of the functions whose needs are
+/// told.
+pub fn flat_exec(
+    alloc: Global,
+    p: &Prog,
+    layout: &Layout,
+    limit: u32,
+    told: &[Option<u32>],
+) -> Result<Exec, OutOfMemory>
+    requires { IsLaidOut p.now layout.now }
+    ensures { IfOk result (IsFlatExec p.now (layout_in layout.now) limit (told_in told.now)) }
 {
     let mut segments = Seq::new(alloc);
     segments.push(Segment {
@@ -31,6 +35,6 @@ pub fn flat_exec(alloc: Global, p: &Prog, layout: &Layout, limit: u32) -> Result
     Ok(Exec {
         entry: layout.address(0, 0),
         segments,
-        symbols: image_symbols(alloc, p, layout)?,
+        symbols: image_symbols(alloc, p, layout, told)?,
     })
 }

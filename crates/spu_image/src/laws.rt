@@ -1,6 +1,6 @@
 //! Laws of links and of the words that they make.
 
-ghost use Rattle.std.specs.Prelude.{◌≡◌, ◌<◌, ◌≤◌, ◌∷◌, [], ℕ, List, Some};
+ghost use Rattle.std.specs.Prelude.{◌≡◌, ◌<◌, ◌≤◌, ◌∷◌, [], ℕ, List, Option, Some};
 ghost use Rattle.spu_word.specs.Bytes.{word_of};
 ghost use Rattle.spu_elf.specs.declared.objects.Object.{Object};
 ghost use Rattle.spu_elf.specs.declared.executables.Exec.{Exec};
@@ -30,8 +30,8 @@ pub fn links_can_start()
 
 /// An executable of a judged program by a flat plan keeps the promise of a link.
 pub fn flat_images_keep_the_promise()
-    ensures { (p : Prog) (frames : ℕ → ℕ) (need : ℕ) → IsJudged p frames need → (plan : Plan) (limit : ℕ) → need ≤ limit → FitsFlat p plan limit → (x : Exec) (file : List ℕ)
-        → IsFlatExec p (layout_of p plan limit) limit x → Headline p (layout_of p plan limit) frames limit need x file }
+    ensures { (p : Prog) (frames : ℕ → ℕ) (need : ℕ) → IsJudged p frames need → (plan : Plan) (limit : ℕ) → need ≤ limit → FitsFlat p plan limit → (told : ℕ → Option ℕ) (x : Exec) (file : List ℕ)
+        → IsFlatExec p (layout_of p plan limit) limit told x → Headline p (layout_of p plan limit) frames limit need x file }
 {}
 
 /// In a flat layout each hop is one step.
@@ -63,10 +63,10 @@ pub fn sample_runs_where_it_lies()
 /// the pointer call has come to the second function, whose address stands in the data, with the link of the place behind
 /// the call and the frame of 32 bytes below the top; after 23 the machine has sent what the symbolic run has, and stopped.
 pub fn tour_runs_in_its_image()
-    ensures enters { (x : Exec) (file : List ℕ) → IsFlatExec tours tour_layout 16384 x → CanStart x file nothing → (tour_after x file 5).pc ≡ 240 }
-    ensures labels { (x : Exec) (file : List ℕ) → IsFlatExec tours tour_layout 16384 x → CanStart x file nothing → (tour_after x file 5).store 131 ≡ 240 }
-    ensures links { (x : Exec) (file : List ℕ) → IsFlatExec tours tour_layout 16384 x → CanStart x file nothing → word_of ((tour_after x file 5).regs link_register) 0 ≡ 192 }
-    ensures points { (x : Exec) (file : List ℕ) → IsFlatExec tours tour_layout 16384 x → CanStart x file nothing → word_of ((tour_after x file 5).regs stack_pointer) 0 ≡ 262080 }
-    ensures sends { (x : Exec) (file : List ℕ) → IsFlatExec tours tour_layout 16384 x → CanStart x file nothing → (tour_after x file 23).output ≡ 14 ∷ 1 ∷ [] }
-    ensures stops { (x : Exec) (file : List ℕ) → IsFlatExec tours tour_layout 16384 x → CanStart x file nothing → (tour_after x file 23).ended ≡ Some (ending.Stop 0x2000) }
+    ensures enters { (told : ℕ → Option ℕ) (x : Exec) (file : List ℕ) → IsFlatExec tours tour_layout 16384 told x → CanStart x file nothing → (tour_after x file 5).pc ≡ 240 }
+    ensures labels { (told : ℕ → Option ℕ) (x : Exec) (file : List ℕ) → IsFlatExec tours tour_layout 16384 told x → CanStart x file nothing → (tour_after x file 5).store 131 ≡ 240 }
+    ensures links { (told : ℕ → Option ℕ) (x : Exec) (file : List ℕ) → IsFlatExec tours tour_layout 16384 told x → CanStart x file nothing → word_of ((tour_after x file 5).regs link_register) 0 ≡ 192 }
+    ensures points { (told : ℕ → Option ℕ) (x : Exec) (file : List ℕ) → IsFlatExec tours tour_layout 16384 told x → CanStart x file nothing → word_of ((tour_after x file 5).regs stack_pointer) 0 ≡ 262080 }
+    ensures sends { (told : ℕ → Option ℕ) (x : Exec) (file : List ℕ) → IsFlatExec tours tour_layout 16384 told x → CanStart x file nothing → (tour_after x file 23).output ≡ 14 ∷ 1 ∷ [] }
+    ensures stops { (told : ℕ → Option ℕ) (x : Exec) (file : List ℕ) → IsFlatExec tours tour_layout 16384 told x → CanStart x file nothing → (tour_after x file 23).ended ≡ Some (ending.Stop 0x2000) }
 {}

@@ -2,12 +2,20 @@
 #![tactic(auto)]
 
 mod images;
+mod judged_linking;
 pub mod laws;
+mod lengths;
 pub mod linking;
 pub mod outcome;
+mod parts;
+mod planning;
 mod segments;
 mod symbols;
+mod telling;
+#[cfg(test)]
+mod tests;
 mod words;
 
+pub use judged_linking::link_judged;
 pub use linking::link;
-pub use outcome::{LinkFault, LinkOptions, Linked};
+pub use outcome::{Image, ImageFault, LinkFault, LinkOptions, Linked};

@@ -25,7 +25,7 @@ fn link_first(alloc: Global, object: &Object, limit: u32) -> Result<Linked, Link
     let sizes = section_sizes(alloc, prog.code.as_slice())?;
     let plan = flat_plan(alloc, prog.data_end as u32, sizes.as_slice())?;
     let layout = lay_out(alloc, &prog, &plan, limit)?;
-    let exec = flat_exec(alloc, &prog, &layout, limit)?;
+    let exec = flat_exec(alloc, &prog, &layout, limit, &[])?;
     let file = write_exec(alloc, &exec)?;
     Ok(Linked {
         exec,

@@ -2,7 +2,7 @@
 
 ghost use Rattle.std.specs.Prelude.{◌≡◌, ◌≢◌, ◌+◌, ◌/◌, ◌<◌, ◌≤◌, ◌++◌, ℕ, suc, List, [], ◌∷◌, All, length, map, Some, IfOk, OnOk, slice_get, slice_set};
 ghost use Rattle.std.specs.List.{flat_map};
-ghost use Rattle.spu_word.specs.declared.limits.TheConstants.{DATA_START, MAX_SECTION_SIZE};
+ghost use Rattle.spu_word.specs.declared.limits.TheConstants.{MAX_SECTION_SIZE};
 ghost use Rattle.spu_lift.specs.declared.program.CodeSection.{CodeSection};
 ghost use Rattle.spu_lift.specs.Places.{instruction_at};
 ghost use Rattle.spu_layout.specs.Views.{layout_in};
@@ -11,6 +11,7 @@ ghost use Rattle.spu_image.specs.Images.{AreWords, IsLoadSegment, bytes_of_words
 ghost use Rattle.spu_lift.specs.StartCode.{start_instructions};
 ghost use Rattle.spu_image.specs.Filling.{AreFilled, IsLaidOut, empty_sections, empty_words, words_in};
 
+use crate::parts::data_bytes;
 use crate::words::{function_words, place_word};
 use spu_layout::Layout;
 use spu_lift::{CodeSection, Function, Prog};
@@ -116,20 +117,19 @@ fn start_words(alloc: Global, p: &Prog, layout: &Layout) -> Result<Seq<u32>, Out
     }
 }
 
-/// The bytes of the load segment of a program without data.
+/// The bytes of the load segment of a program.
 pub fn load_segment(
     alloc: Global,
     p: &Prog,
     layout: &Layout,
     limit: u32,
 ) -> Result<Bytes, OutOfMemory>
-    requires laid { IsLaidOut p.now layout.now }
-    requires no_data { p.now.data_end ≡ DATA_START }
+    requires { IsLaidOut p.now layout.now }
     ensures { IfOk result (IsLoadSegment p.now (layout_in layout.now) limit) }
 {
     let start = start_words(alloc, p, layout)?;
     let sections = section_words(alloc, p, layout)?;
-    let mut bytes = Seq::new(alloc);
+    let mut bytes = data_bytes(alloc, p, layout)?;
     put_words(&mut bytes, &[STACK_TOP, limit, 0, 0])?;
     put_words(&mut bytes, start.as_slice())?;
     put_words(&mut bytes, &[0])?;

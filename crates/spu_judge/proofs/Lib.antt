@@ -4,4 +4,4 @@ pub mod Pointing
 pub mod Needs
 pub mod Cycles
 pub mod Promised
-pub mod Samples
+pub mod SampleFormed

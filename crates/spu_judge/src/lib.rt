@@ -5,6 +5,8 @@
 mod building;
 mod judging;
 mod outcome;
+#[cfg(test)]
+mod samples;
 mod telling;
 #[cfg(test)]
 mod tests;

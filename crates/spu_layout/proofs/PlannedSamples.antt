@@ -1,7 +1,7 @@
 -- The plans of the samples are ones that are made.
-use Rattle.std.proofs.Common.{◌≡◌, ℕ, zero, suc, ◌%◌, ◌≤◌, ◌<◌, ◌⊎◌, List, [], ◌∷◌, length, All, refl, inl, inr, arith}
+use Rattle.std.proofs.Common.{◌≡◌, ℕ, zero, suc, ◌%◌, [], ◌∷◌, All, refl, inr, arith}
 use Rattle.spu_plan.specs.Choices.{IsInput, IsOverlayPlan}
-use Rattle.spu_layout.specs.Planned.{IsInputOf, IsPlanned}
+use Rattle.spu_layout.specs.Planned.{IsPlanned}
 use Rattle.spu_layout.specs.Samples.{sample}
 use Rattle.spu_layout.specs.PlannedSamples.{sample_input, sample_made, pair, pair_input, pair_made}
 

@@ -1,6 +1,6 @@
 -- Small programs with plans that are made for them, with overlays always: that of the samples with two buffers of 1,024 bytes, where the
 -- second and third section share a region; and a pair of functions, in a section each, with one buffer of 16,384 bytes.
-use Rattle.std.specs.Prelude.{ℕ, false, true, List, [], ◌∷◌, codes, replicate}
+use Rattle.std.specs.Prelude.{false, true, [], ◌∷◌, codes, replicate}
 use Rattle.spu_lift.specs.declared.program.Prog.{Prog}
 use Rattle.spu_lift.specs.StartCode.{start_code}
 use Rattle.spu_plan.specs.declared.input.Mode.TheVariants as mode

@@ -71,7 +71,7 @@ test_code l =
     wide op.Brz 78 (jump 15 EXIT_WORD) ∷ ri op.Ai 76 78 (negsuc 0) ∷ ri op.Andi 76 76 (pos (l.buffers - 1)) ∷ ri op.Shli 76 76 (pos 4)
     ∷ wide op.Ila 77 (pos (l.base + LOADER_SIZE)) ∷ rr op.A 76 76 77 ∷ ri op.Lqd 77 76 (pos 0) ∷ rr op.Ceq 77 77 78 ∷ wide op.Brnz 77 (jump 23 EXIT_WORD) ∷ []
 
--- words 24 to 30: the region goes into the mapped quadword, and its entry of the table is read
+-- words 24 to 30: the region's number goes into the mapped quadword, and its entry of the table is read
 abbrev pub fetch_code : Loader → List Inst
 fetch_code l =
     wide op.Fsmbi 75 (negsuc 0xfff) ∷ rr op.And 75 78 75 ∷ ri op.Stqd 75 76 (pos 0) ∷ ri op.Shli 76 78 (pos 4)

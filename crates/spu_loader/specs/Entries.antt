@@ -1,4 +1,5 @@
--- What the loader promises: from a function's stub, or from the return entry, to the place that is asked for, with its region mapped.
+-- What the loader promises: from a function's stub, or from the return entry, to the place that is asked for, with its region mapped. (This
+-- project's own.)
 use Rattle.std.specs.Prelude.{◌≡◌, ◌≢◌, ℕ, ◌+◌, ◌*◌, ◌%◌, ◌<◌, ◌≤◌, ◌⊎◌, ◌==◌, ◌&&◌, ◌||◌, not, nat_le, nat_lt, if◌then◌else◌, Bool, true, false, List, None}
 use Rattle.spu_word.specs.declared.limits.TheConstants.{QUAD_SIZE, STORE_SIZE, WORD_SIZE}
 use Rattle.spu_exec.specs.declared.channels.TheConstants.{MFC_LSA, MFC_TAG_ID}

@@ -1,5 +1,6 @@
 -- An overlay image as the loader finds it: the numbers of its layout, what the local store and the image's file hold, and the states in
 -- which the loader can run. Regions have numbers from 1 on; 0 is the root, which is never loaded.
+-- (No standard has it: the form of these images is this project's own.)
 use Rattle.std.specs.Prelude.{◌≡◌, ℕ, ◌+◌, ◌-◌, ◌*◌, ◌/◌, ◌%◌, ◌^◌, ◌<◌, ◌≤◌, ◌⊎◌, false, List, length, slice_index, None}
 use Rattle.spu_word.specs.declared.limits.TheConstants.{MAX_TRANSFER_SIZE, QUAD_SIZE, QUEUE_SIZE, STORE_SIZE, WORD_SIZE}
 use Rattle.spu_word.specs.Bytes.{word_of, quad_of}

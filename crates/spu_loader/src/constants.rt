@@ -9,9 +9,6 @@ pub const LOADER_CODE_SIZE: u32 = 264;
 /// The bytes of its words and of the two zero words behind them. The mapped quadwords follow, one for each buffer.
 pub const LOADER_SIZE: u32 = 272;
 
-/// The bytes of the three quadwords behind the mapped ones.
-pub const CONSTANTS_SIZE: u32 = 48;
-
 /// Bytes that its words and quadwords never fill, whatever the number of buffers.
 pub const LOADER_ROOM: u32 = 512;
 

@@ -1,13 +1,11 @@
 -- What runs make of an object that embeds an executable.
-use Rattle.std.proofs.Common.{◌≡◌, ℕ, ◌≤◌, Bool, true, false, List, Option, Some, None, refl, sym, ap, subst, ◌∙◌, inl, inr, length}
-use Rattle.spu_word.specs.declared.limits.TheConstants.{MAX_FILE_SIZE}
+use Rattle.std.proofs.Common.{◌≡◌, ℕ, Bool, true, false, List, Option, Some, None, refl, sym, subst, ◌∙◌, inl, inr}
 use Rattle.spu_elf.specs.declared.executables.Exec.{Exec}
 use Rattle.spu_elf.specs.Spelling.{spell_exec}
-use Rattle.spu_cesof.specs.Answers.{Unpacks}
 use Rattle.spu_cesof.specs.Embedding.{Embeds, embedding, entry_names}
 use Rattle.spu_cesof.specs.Unpacking.{cesof_fault, image_in}
 use Rattle.spu_cesof.specs.declared.faults.CesofFault.{CesofFault}
-use Rattle.spu_cesof.proofs.ForthWhole.{embedded_again}
+use Rattle.spu_cesof.proofs.Given.{taken_out}
 use Rattle.spu_tool.specs.declared.made.Made.{Made}
 use Rattle.spu_tool.specs.declared.options.RunOptions.{RunOptions}
 use Rattle.spu_tool.specs.Makes.{is_embedded, MakesRun, MakesRunOf, AreRunAlike}
@@ -27,14 +25,6 @@ file_is_plain handle file e h = subst (λ b. is_embedded b ≡ false) h.file_is 
 
 embeds_is_embedded : (handle file e : List ℕ) → Embeds handle file e → is_embedded e ≡ true
 embeds_is_embedded handle file e h = subst (λ b. is_embedded b ≡ true) (sym h.spelled) (object_is_embedded handle (entry_names h.executable.symbols) file)
-
-unpacked : (handle file e : List ℕ) → Embeds handle file e → Unpacks e file
-unpacked handle file e h =
-    let names = entry_names h.executable.symbols in
-    let spelled : e ≡ embedding handle names (spell_exec h.executable) = h.spelled ∙ ap (embedding handle names) (sym h.file_is) in
-    subst (Unpacks e) h.file_is
-    (subst (λ b. Unpacks b (spell_exec h.executable)) (sym spelled)
-    (embedded_again handle h.executable h.named h.valid (subst (λ b. length b ≤ MAX_FILE_SIZE) spelled h.small)))
 
 both : (b : Bool) → b ≡ true → b ≡ false → true ≡ false
 both b t f = sym t ∙ f
@@ -62,7 +52,7 @@ pub run_alike : AreRunAlike
 run_alike handle file e h options name files m =
     let plain = file_is_plain handle file e h in
     let embedded = embeds_is_embedded handle file e h in
-    let u = unpacked handle file e h in (
+    let u = taken_out handle file e h in (
       λ made. inr (inr (record { plain = plain; made = subst (λ b. MakesRun options name b files m) u.image (of_embedded options name e files m embedded u.passes made) })),
       λ made. inl (record { embedded = embedded; passes = u.passes; made = subst (λ b. MakesRun options name b files m) (sym u.image) (of_plain options name file files m plain made) }),
     )

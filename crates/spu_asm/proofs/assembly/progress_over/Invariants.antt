@@ -1,6 +1,6 @@
 use Rattle.std.proofs.Common.{◌+◌, ◌≤◌, length}
 use Rattle.spu_text.specs.Texts.{lines_of}
-use Rattle.spu_asm.specs.Progressing.{Leads}
+use Rattle.spu_asm.proofs.ProgressLemmas.{Leads}
 use Rattle.spu_asm.specs.Assembly.{lines_after, run_of}
 use Rattle.spu_asm.proofs.assembly.progress_over.Given as goal
 

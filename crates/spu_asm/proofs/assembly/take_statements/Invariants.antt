@@ -1,7 +1,8 @@
 use Rattle.spu_asm.specs.Parts.{lexemes, parts_left}
 use Rattle.spu_asm.specs.Values.{parted}
 use Rattle.spu_asm.specs.Faults.{Run}
-use Rattle.spu_asm.specs.Progressing.{InRun, Leads}
+use Rattle.spu_asm.specs.Progressing.{InRun}
+use Rattle.spu_asm.proofs.ProgressLemmas.{Leads}
 use Rattle.spu_asm.specs.Assembly.{statements_after}
 use Rattle.spu_asm.proofs.PiecesLeft.{pieces_left}
 use Rattle.spu_asm.proofs.assembly.take_statements.Given as goal

@@ -4,8 +4,8 @@ use Rattle.spu_image.proofs.linking.link_first.Goals as goal
 pub lay_out-requires-clause-well_formed : goal.lay_out-requires-clause-well_formed
 lay_out-requires-clause-well_formed c = formed c.args.object.now c.requires.first c.in_ok-prog.prog c.in_ok-prog.ensures
 
-pub flat_exec-requires-clause-laid : goal.flat_exec-requires-clause-laid
-flat_exec-requires-clause-laid c =
+pub flat_exec-requires : goal.flat_exec-requires
+flat_exec-requires c =
     laid_out c.args.object.now c.requires.first c.in_ok-prog.prog c.in_ok-prog.ensures c.args.limit c.requires.limit c.in_ok-plan.plan
     (plan_is c.in_ok-prog.prog c.as_slice.result.now c.in_ok-sizes.sizes c.as_slice-2.result.now c.in_ok-plan.plan c.as_slice.ensures c.in_ok-sizes.ensures c.as_slice-2.ensures c.in_ok-plan.ensures)
     c.in_ok-layout.layout c.in_ok-layout.ensures.layout c.in_ok-layout.ensures.functions

@@ -1,13 +1,13 @@
 use Rattle.std.proofs.Common.{ap, sym, ◌∙◌}
-use Rattle.std.specs.Prelude.{option_map}
+use Rattle.std.specs.Prelude.{option_map, option_and_then}
 use Rattle.spu_asm.specs.Tables.{rows}
-use Rattle.spu_asm.specs.Summaries.{sighting_spot}
+use Rattle.spu_asm.specs.Summaries.{Sighting}
 use Rattle.spu_asm.specs.Cursors.{sighting_of}
 use Rattle.spu_asm.proofs.TableLemmas.{value_with}
 use Rattle.spu_asm.proofs.symbols.Table+SymbolDraft.spot.Goals as goal
 
 pub returns-in-Some : goal.returns-in-Some
-returns-in-Some c = sym (ap sighting_spot (value_with sighting_of (rows c.args.self.now) c.args.name.now ∙ ap (option_map sighting_of) (sym c.in-Some.ensures)))
+returns-in-Some c = sym (ap (option_and_then (λ (s : Sighting). s.spot)) (value_with sighting_of (rows c.args.self.now) c.args.name.now ∙ ap (option_map sighting_of) (sym c.in-Some.ensures)))
 
 pub returns-in-None : goal.returns-in-None
-returns-in-None c = sym (ap sighting_spot (value_with sighting_of (rows c.args.self.now) c.args.name.now ∙ ap (option_map sighting_of) (sym c.in-None.ensures)))
+returns-in-None c = sym (ap (option_and_then (λ (s : Sighting). s.spot)) (value_with sighting_of (rows c.args.self.now) c.args.name.now ∙ ap (option_map sighting_of) (sym c.in-None.ensures)))

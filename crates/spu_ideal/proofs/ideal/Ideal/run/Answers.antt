@@ -1,0 +1,18 @@
+use Rattle.std.proofs.Common.{arith, ◌-◌, sym, ◌∙◌}
+use Rattle.spu_frame.specs.Found.{frame_at}
+use Rattle.spu_ideal.specs.View.{state_of}
+use Rattle.spu_ideal.proofs.Stepped.{steps_ended, steps_left, steps_none}
+use Rattle.spu_ideal.proofs.ideal.Ideal.run.Goals as goal
+
+pub returns-in-Some-clause-state : goal.returns-in-Some-clause-state
+returns-in-Some-clause-state c = sym (steps_ended c.args.p.now (frame_at c.args.d.now) (c.args.budget - c.loop.counter) (state_of c.loop.self) c.in-Some.end c.in-Some.is) ∙ c.loop.invariant.rest
+
+pub loop-preserved : goal.loop-preserved
+loop-preserved c = record {
+  rest = steps_left c.args.p.now (frame_at c.args.d.now) c.args.budget c.loop.counter (state_of c.loop.self) (state_of c.advance.new.self) c.loop-test.true c.advance.ensures.exact ∙ c.loop.invariant.rest;
+  kept = c.advance.ensures.of;
+  made = omega arith;
+}
+
+pub returns-clause-state : goal.returns-clause-state
+returns-clause-state c = sym (steps_none c.args.p.now (frame_at c.args.d.now) (c.args.budget - c.loop.counter) (state_of c.loop.self) (omega arith)) ∙ c.loop.invariant.rest

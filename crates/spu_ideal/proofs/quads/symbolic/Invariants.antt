@@ -1,0 +1,6 @@
+use Rattle.std.proofs.Common.{◌≡◌, ℕ, ◌<◌, get_or, length}
+use Rattle.spu_lift.specs.declared.symbolic.SymByte.TheVariants.{Num, Unknown}
+use Rattle.spu_ideal.proofs.quads.symbolic.Given as goal
+
+abbrev pub invariant-loop-k : goal.invariant-loop-k
+invariant-loop-k l = record { len : length l.bytes ≡ 16; same : (k : ℕ) → k < l.k → get_or l.bytes k Unknown ≡ Num (get_or l.quad.0 k 0) }

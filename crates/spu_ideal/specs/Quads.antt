@@ -1,0 +1,25 @@
+-- Quads of symbolic bytes as the symbolic machine keeps them: those of numbers alone stand apart.
+use Rattle.std.specs.Prelude.{ℕ, List, slice_index, Bool, true, false}
+use Rattle.spu_lift.specs.declared.symbolic.SymByte.{SymByte}
+use Rattle.spu_lift.specs.declared.symbolic.SymByte.TheVariants.{Num}
+use Rattle.spu_ideal.specs.declared.quads.SymQuad.{SymQuad}
+use Rattle.spu_ideal.specs.declared.quads.SymQuad.TheVariants.{Numbers, Mixed}
+use Rattle.spu_ideal.specs.Bytes.{sym_at, sixteen}
+
+-- byte k
+abbrev pub byte_in : SymQuad → ℕ → SymByte
+byte_in (Numbers quad) k = Num (slice_index quad.0 k)
+byte_in (Mixed bytes) k = sym_at bytes k
+
+-- the sixteen bytes
+unfoldable pub quad_bytes : SymQuad → List SymByte
+quad_bytes quad = sixteen (byte_in quad)
+
+-- whether it is kept as numbers, and byte k of these; 0 where it isn't
+abbrev pub is_plain : SymQuad → Bool
+is_plain (Numbers quad) = true
+is_plain (Mixed bytes) = false
+
+abbrev pub plain_number : SymQuad → ℕ → ℕ
+plain_number (Numbers quad) k = slice_index quad.0 k
+plain_number (Mixed bytes) k = 0
