@@ -115,7 +115,7 @@ impl Ideal {
     {
         match kind {
             Kind::Compute => self.compute(p, x),
-            Kind::Load => self.load(p, d, x),
+            Kind::Load => self.load_register(p, d, x),
             Kind::Store => self.save(p, d, x),
             Kind::Branch => self.branch_where(p, x),
             Kind::Call => self.call_direct(p, x.operand),

@@ -23,7 +23,8 @@ use Rattle.spu_ls.specs.Machine.{step}
 use Rattle.spu_ls.specs.declared.ending.RunEnd.TheVariants as machine
 use Rattle.spu_ls.specs.declared.admission.Misfit.{Misfit}
 use Rattle.spu_ls.specs.declared.admission.Misfit.TheVariants as misfits
-use Rattle.spu_ls.specs.Loading.{load_fault, fault_of, misfit_of, or_else, first_unresolved, first_overlap, first_unfit, first_outside, are_inside, is_in_store}
+use Rattle.spu_exec.specs.Admission.{first_overlap, first_unfit}
+use Rattle.spu_ls.specs.Loading.{load_fault, fault_of, misfit_of, or_else, first_unresolved, first_outside, are_inside, is_in_store}
 use Rattle.spu_ls.specs.Sound.{IsOverBytes}
 use Rattle.spu_ls.specs.Start.{image_of, start}
 use Rattle.spu_ideal.specs.Machine.{run}
