@@ -43,3 +43,6 @@ pub mod FlatSteps
 pub mod SampleRuns
 pub mod TourRuns
 pub mod TourLinks
+pub mod RegionBytes
+pub mod Stubs
+pub mod Tables

@@ -156,3 +156,33 @@ long_spread (false ∷ fs) (n ∷ ns) (x ∷ xs) a b = (let rest = long_spread f
 pub long_regions : (b : ℕ) (sizes : List ℕ) (rooted : List Bool) (region_of : List ℕ) (count : ℕ) → length rooted ≡ length sizes → AreCut b sizes rooted region_of count → length region_of ≡ length sizes
 long_regions b sizes rooted region_of count flags cut =
     ap length cut.each ∙ long_spread (staying b sizes rooted) (numbers 1 cut.regions) sizes (staying_long b sizes rooted flags) (long_of b sizes rooted region_of count flags cut)
+
+-- ---- regions have numbers up to their count
+
+abbrev Low : ℕ → List ℕ → Type 0
+Low n [] = Unit {0}
+Low n (x ∷ xs) = (x ≤ n) × Low n xs
+
+low_at : (n : ℕ) (xs : List ℕ) → Low n xs → (k : ℕ) → get_or xs k 0 ≤ n
+low_at n [] h k = omega arith
+low_at n (x ∷ xs) h zero = h.0
+low_at n (x ∷ xs) h (suc k) = low_at n xs h.1 k
+
+low_repeated : (n k m : ℕ) (ns : List ℕ) → m ≤ n → Low n ns → Low n (replicate k m ++ ns)
+low_repeated n zero m ns h rest = rest
+low_repeated n (suc k) m ns h rest = (h, low_repeated n k m ns h rest)
+
+low_numbers : (n m : ℕ) (regions : List (List ℕ)) → m + length regions ≤ n + 1 → Low n (numbers m regions)
+low_numbers n m [] h = tt
+low_numbers n m (region ∷ rest) h = low_repeated n (length region) m (numbers (suc m) rest) (omega arith) (low_numbers n (suc m) rest (omega arith))
+
+low_spread : (n : ℕ) (stay : List Bool) (ns : List ℕ) → Low n ns → Low n (spread stay ns)
+low_spread n [] ns h = tt
+low_spread n (true ∷ fs) ns h = (omega arith, low_spread n fs ns h)
+low_spread n (false ∷ fs) [] h = tt
+low_spread n (false ∷ fs) (m ∷ ns) h = (h.0, low_spread n fs ns h.1)
+
+pub regions_known : (b : ℕ) (sizes : List ℕ) (rooted : List Bool) (region_of : List ℕ) (count : ℕ) → AreCut b sizes rooted region_of count → (k : ℕ) → get_or region_of k 0 ≤ count
+regions_known b sizes rooted region_of count cut k =
+    subst (λ rs. get_or rs k 0 ≤ count) (sym cut.each)
+    (low_at count (spread (staying b sizes rooted) (numbers 1 cut.regions)) (low_spread count (staying b sizes rooted) (numbers 1 cut.regions) (low_numbers count 1 cut.regions (let many = cut.many in omega (arith, many)))) k)
