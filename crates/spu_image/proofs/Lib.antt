@@ -20,6 +20,13 @@ pub mod Commanding
 pub mod Flat
 pub mod Settling
 pub mod FlatHops
+pub mod Growing
+pub mod Tellings
+pub mod Overlaid
+pub mod Carrying
+pub mod Surroundings
+pub mod Overlays
+pub mod PlannedOverlays
 pub mod Starting
 pub mod Placing
 pub mod Promising

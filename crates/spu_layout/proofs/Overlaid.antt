@@ -65,7 +65,7 @@ buffer_aligned b m h = sym (mul-mod_first b m 16) ∙ ap (λ k. k * m % 16) h �
 
 -- ---- a place in its region, over plain numbers
 
-record Placed (start whole a : ℕ) : Type 0 where
+pub record Placed (start whole a : ℕ) : Type 0 where
   pub low : start ≤ a
   pub up : a + 4 ≤ start + whole
   pub aligned : a % 4 ≡ 0
@@ -156,9 +156,11 @@ module _ (p : Prog) (plan : Plan) (limit : ℕ) (well : IsWellFormed p) (input :
         buffers = λ q. in_buffers (buffers_start p plan) (plan.buffer * (r % plan.buffers)) plan.buffer (plan.buffer * plan.buffers) (region_size p plan (suc r)) a h (region_is_small r) (buffer_within plan.buffer plan.buffers r some);
       }
 
-  in_function : (f i : ℕ) (o : Option Function) → slice_get p.functions (suc f) ≡ o → (x : SymInst) → place_in o i ≡ Some x → Bounds p plan (region p plan (suc f)) (at p plan (suc f) i)
-  in_function f i None e x h = cc
-  in_function f i (Some g) e x h =
+  -- a place of a function lies in its region
+  pub in_region : (f i : ℕ) (o : Option Function) → slice_get p.functions (suc f) ≡ o → (x : SymInst) → place_in o i ≡ Some x
+      → Placed (region_start p plan (region p plan (suc f))) (region_size p plan (region p plan (suc f))) (at p plan (suc f) i)
+  in_region f i None e x h = cc
+  in_region f i (Some g) e x h =
       let within = well.each (suc f) g (λ q. omega arith) e in
       let few = slice_get_within g.code i x h in
       let fits = within.fits in
@@ -168,7 +170,7 @@ module _ (p : Prog) (plan : Plan) (limit : ℕ) (well : IsWellFormed p) (input :
       let own : g.offset + 4 * length g.code ≤ rounded within.section.size = omega (arith, fits) in
       let here = placed (region_start p plan r) (size_in r (sizes_of p) plan.region_of g.section) (rounded within.section.size) (region_size p plan r) g.offset i (length g.code)
       (section_within g.section within.section within.there) own few (region_quad r) (region_quads r p.code plan.region_of g.section) within.aligned in
-      subst (λ s. Bounds p plan s (at p plan (suc f) i)) (sym there) (subst (Bounds p plan r) (sym is) (by_region r (section_start p plan g.section + g.offset + 4 * i) here))
+      subst (λ s. Placed (region_start p plan s) (region_size p plan s) (at p plan (suc f) i)) (sym there) (subst (Placed (region_start p plan r) (region_size p plan r)) (sym is) here)
 
   in_start : (i : ℕ) (x : SymInst) → instruction_at p 0 i ≡ Some x → Bounds p plan 0 (at p plan 0 i)
   in_start i x h =
@@ -178,7 +180,7 @@ module _ (p : Prog) (plan : Plan) (limit : ℕ) (well : IsWellFormed p) (input :
 
   pub bounds : (f i : ℕ) (x : SymInst) → instruction_at p f i ≡ Some x → Bounds p plan (region p plan f) (at p plan f i)
   bounds zero i x h = in_start i x h
-  bounds (suc f) i x h = in_function f i (slice_get p.functions (suc f)) refl x h
+  bounds (suc f) i x h = by_region (region p plan (suc f)) (at p plan (suc f) i) (in_region f i (slice_get p.functions (suc f)) refl x h)
 
   -- in the root or in the buffers, and so below the stack and outside the passage
   root_behind : root_end p plan + 320 ≤ buffers_start p plan

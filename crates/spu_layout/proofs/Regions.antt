@@ -12,7 +12,7 @@ use Rattle.spu_layout.specs.Placing.{section_sizes, size_in}
 sum_cons : (x : ℕ) (xs : List ℕ) → sum (x ∷ xs) ≡ x + sum xs
 sum_cons x xs = sum_by-cons (λ n. n) x xs
 
-staying_long : (b : ℕ) (sizes : List ℕ) (rooted : List Bool) → length rooted ≡ length sizes → length (staying b sizes rooted) ≡ length sizes
+pub staying_long : (b : ℕ) (sizes : List ℕ) (rooted : List Bool) → length rooted ≡ length sizes → length (staying b sizes rooted) ≡ length sizes
 staying_long b [] rooted e = refl
 staying_long b (x ∷ xs) [] e = absurd (omega arith)
 staying_long b (x ∷ xs) (f ∷ fs) e = (let rest = staying_long b xs fs (omega arith) in omega (arith, rest))
@@ -35,7 +35,7 @@ long_repeated : (xs : List ℕ) (m : ℕ) (ys ns : List ℕ) → length ns ≡ l
 long_repeated [] m ys ns e = e
 long_repeated (x ∷ xs) m ys ns e = (let rest = long_repeated xs m ys ns e in omega (arith, rest))
 
-long_numbers : (m : ℕ) (regions : List (List ℕ)) → length (numbers m regions) ≡ length (concat regions)
+pub long_numbers : (m : ℕ) (regions : List (List ℕ)) → length (numbers m regions) ≡ length (concat regions)
 long_numbers m [] = refl
 long_numbers m (region ∷ rest) = long_repeated region m (concat rest) (numbers (suc m) rest) (long_numbers (suc m) rest)
 
@@ -108,7 +108,7 @@ module _ (b : ℕ) (sizes : List ℕ) (rooted : List Bool) (region_of : List ℕ
   abbrev stay : List Bool
   stay = staying b sizes rooted
 
-  long_of : length (numbers 1 cut.regions) ≡ length (overlaid stay sizes)
+  pub long_of : length (numbers 1 cut.regions) ≡ length (overlaid stay sizes)
   long_of = long_numbers 1 cut.regions ∙ ap length cut.cut.whole
 
   pub root_size : size_in 0 sizes region_of (length sizes) ≡ sum (root_sizes stay sizes)
