@@ -11,9 +11,13 @@ mod embed_command;
 mod fault_lines;
 mod laws;
 mod link_command;
+mod link_lines;
+#[cfg(test)]
+mod link_tests;
 mod lists;
 mod made;
 mod making;
+mod names;
 mod numbers;
 mod options;
 mod reading;

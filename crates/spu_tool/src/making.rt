@@ -57,7 +57,7 @@ pub fn make(
                 first_file(files),
             )
         }
-        Action::Link => link_command(alloc, first_name(names), first_file(files)),
+        Action::Link(options) => link_command(alloc, &options, names, files),
         Action::Run(options) => {
             run_any(
                 alloc,
