@@ -1,3 +1,4 @@
+pub mod LiftFaults
 pub mod Agreeing
 pub mod Words
 pub mod Matching

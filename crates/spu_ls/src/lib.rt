@@ -20,5 +20,6 @@ mod tests;
 mod transfer_tests;
 
 pub use ending::{MAX_HOP_STEPS, RunEnd, Tick};
+pub use entries::image_place;
 pub use soundness::{start_is_sound, step_is_sound, step_leaves_registers};
 pub use stepping::Machine;

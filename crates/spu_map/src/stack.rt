@@ -5,6 +5,7 @@ ghost use Rattle.spu_lift.specs.WellFormed.{IsWellFormed};
 ghost use Rattle.spu_frame.specs.Found.{function_count};
 ghost use Rattle.spu_map.specs.Stacks.{frame_line, function_line, stack_text};
 
+use crate::texts::named_line;
 use spu_frame::Depths;
 use spu_graph::Needs;
 use spu_lift::Prog;
@@ -16,10 +17,7 @@ fn frame_line(alloc: Global, frame: u32, need: u64, name: &[u8]) -> Result<Bytes
     ensures { IfOk result (λ t. t ≡ frame_line frame need name.now) }
 {
     let front = format!(in alloc; "frame {frame} need {need} ")?;
-    let mut line = Seq::copied(alloc, front.as_bytes())?;
-    line.extend(name)?;
-    line.push(b'\n')?;
-    Ok(line)
+    Ok(named_line(alloc, front.as_str(), name)?)
 }
 
 /// The line of a function, where a path from the entry reaches it.

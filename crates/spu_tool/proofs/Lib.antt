@@ -1,5 +1,6 @@
 pub mod Alike
 pub mod FileLists
+pub mod FileNames
 pub mod Growing
 pub mod Links
 pub mod Loads

@@ -43,10 +43,6 @@ asm_line kind line = asm_name kind ++ codes " " ++ decimal line ++ codes "\n"
 abbrev pub elf_line : ElfKind → List ℕ → ℕ → List ℕ
 elf_line kind file offset = elf_name kind ++ codes " " ++ file ++ codes " " ++ decimal offset ++ codes "\n"
 
--- an object that isn't of the first form
-abbrev pub form_line : List ℕ → List ℕ
-form_line file = codes "L0 NotBuilt " ++ file ++ codes "\n"
-
 -- why an executable could not be loaded; want of memory has no line
 abbrev pub name_line : List ℕ → List ℕ → List ℕ
 name_line what name = what ++ name ++ codes "\n"

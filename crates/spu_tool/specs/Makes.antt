@@ -1,5 +1,5 @@
 -- What a command makes of the bytes of its files: a status, an output file where it has one, and a text.
-use Rattle.std.specs.Prelude.{◌≡◌, ℕ, ◌+◌, ◌-◌, ◌^◌, ◌<◌, ◌≤◌, ◌/◌, ◌%◌, ◌++◌, ◌∷◌, [], ◌⊎◌, ◌↔◌, Bool, true, false, nat_lt, ◌==◌, if◌then◌else◌, List, length, take, drop, slice_index_or, Option, Some, None, codes}
+use Rattle.std.specs.Prelude.{◌≡◌, ◌≢◌, ℕ, ◌+◌, ◌-◌, ◌^◌, ◌<◌, ◌≤◌, ◌/◌, ◌%◌, ◌++◌, ◌∷◌, [], ◌⊎◌, ◌↔◌, Bool, true, false, nat_lt, ◌==◌, if◌then◌else◌, List, length, take, drop, map, All, slice_index_or, Option, Some, None, unwrap_or, Result, Ok, Err, codes}
 use Rattle.std.specs.List.{flat_map}
 use Rattle.std.specs.Fmt.{decimal}
 use Rattle.std.specs.Str.{bytes_eq}
@@ -10,12 +10,18 @@ use Rattle.spu_elf.specs.declared.faults.ElfKind.{ElfKind}
 use Rattle.spu_elf.specs.declared.faults.ElfFault.{ElfFault}
 use Rattle.spu_elf.specs.declared.faults.ElfFault.TheVariants as faults
 use Rattle.spu_elf.specs.Reading.{object_fault, object_in}
+use Rattle.spu_elf.specs.WellFormed.{IsWellFormed}
 use Rattle.spu_elf.specs.declared.executables.Segment.{Segment}
-use Rattle.spu_lift.specs.FirstForm.{IsFirst}
 use Rattle.spu_elf.specs.Spelling.{spell}
-use Rattle.spu_tool.specs.FaultLines.{asm_line, elf_line, form_line, load_line, cesof_line}
+use Rattle.spu_tool.specs.FaultLines.{asm_line, elf_line, load_line, cesof_line}
 use Rattle.spu_image.specs.declared.outcome.Linked.{Linked}
-use Rattle.spu_image.specs.Linking.{IsLinked}
+use Rattle.spu_image.specs.declared.outcome.LinkFault.{LinkFault}
+use Rattle.spu_image.specs.declared.outcome.LinkFault.TheVariants as links
+use Rattle.spu_image.specs.declared.outcome.LinkOptions.{LinkOptions}
+use Rattle.spu_image.specs.Linking.{IsLinked, IsLinkFault}
+use Rattle.spu_map.specs.Stacks.{stack_text}
+use Rattle.spu_graph.specs.Known.{need_of}
+use Rattle.spu_tool.specs.LinkLines.{link_line}
 use Rattle.spu_elf.specs.declared.executables.Exec.{Exec}
 use Rattle.spu_elf.specs.Executables.{exec_fault}
 use Rattle.spu_elf.specs.Validity.{IsName, IsValidExec}
@@ -25,6 +31,7 @@ use Rattle.spu_word.specs.declared.load.Area.{Area}
 use Rattle.spu_word.specs.declared.load.Inputs.{Inputs}
 use Rattle.hex.specs.Hex.{encode_lower}
 use Rattle.spu_tool.specs.Areas.{areas_of}
+use Rattle.spu_map.specs.Maps.{map_text}
 use Rattle.spu_asm.specs.Assembly.{Assembles, IsFaultOf}
 use Rattle.spu_asm.specs.Faults.{Fault}
 use Rattle.spu_ls.specs.Machine.{State, steps}
@@ -33,17 +40,16 @@ use Rattle.spu_ls.specs.Loading.{load_fault}
 use Rattle.spu_ls.specs.Ends.{end_of}
 use Rattle.spu_ls.specs.declared.ending.RunEnd.{RunEnd}
 use Rattle.spu_ls.specs.declared.ending.RunEnd.TheVariants as ending
-use Rattle.spu_word.specs.declared.limits.TheConstants.{STACK_TOP, DATA_START, MAX_FILE_SIZE}
+use Rattle.spu_word.specs.declared.limits.TheConstants.{STACK_TOP, MAX_FILE_SIZE, MAX_OBJECTS}
 use Rattle.spu_cesof.specs.Embedding.{Embeds, embedding, entry_names}
 use Rattle.spu_cesof.specs.Unpacking.{cesof_fault, image_in}
 use Rattle.spu_cesof.specs.declared.faults.CesofFault.{CesofFault}
 use Rattle.spu_cesof.specs.declared.faults.CesofFault.TheVariants as cesof
-use Rattle.spu_tool.specs.declared.link_command.TheConstants.{DEFAULT_LIMIT}
 use Rattle.spu_tool.specs.declared.made.Made.{Made}
 use Rattle.spu_tool.specs.declared.options.RunOptions.{RunOptions}
 use Rattle.spu_tool.specs.declared.request.Action.{Action}
 use Rattle.spu_tool.specs.declared.request.Action.TheVariants as action
-use Rattle.spu_tool.specs.Options.{AreSound}
+use Rattle.spu_tool.specs.Options.{AreLinkSound, AreSound}
 use Rattle.spu_tool.specs.declared.status.Status.{Status}
 use Rattle.spu_tool.specs.declared.status.Status.TheVariants as status
 
@@ -62,27 +68,33 @@ count_line what count = what ++ codes " " ++ decimal count ++ codes "\n"
 abbrev pub share_line : List ℕ → ℕ → ℕ → List ℕ
 share_line what part whole = what ++ codes " " ++ decimal part ++ codes " of " ++ decimal whole ++ codes "\n"
 
+-- what the entry needs of the stack
+abbrev pub entry_need : Linked → ℕ
+entry_need l = unwrap_or (need_of l.needs l.prog.entry) 0
+
+-- the lines of functions with their frames and needs, where they are asked for
+abbrev pub stack_lines : Bool → Linked → List ℕ
+stack_lines true l = stack_text l.prog l.depths l.needs
+stack_lines false l = []
+
 -- the summary of a flat image: how many functions it has beside the start code, the stack that they need, and where it ends
-abbrev pub summary_of : ℕ → ℕ → ℕ → ℕ → List ℕ
-summary_of functions need limit top =
-    codes "image flat\n" ++ count_line (codes "functions") functions
-    ++ share_line (codes "stack") need limit ++ share_line (codes "top") top (STACK_TOP - limit)
+abbrev pub summary : Linked → ℕ → ℕ → Bool → List ℕ
+summary l need limit stack_syms =
+    codes "image flat\n" ++ count_line (codes "functions") (length l.prog.functions - 1)
+    ++ share_line (codes "stack") need limit ++ share_line (codes "top") l.plan.end (STACK_TOP - limit) ++ stack_lines stack_syms l
 
-abbrev pub summary : Linked → ℕ → ℕ → List ℕ
-summary l limit need = summary_of (length l.prog.functions - 1) need limit l.plan.end
-
--- the object that the bytes stand for is linked; its functions need no stack
-pub record LinksTo (bytes : List ℕ) (m : Made) : Type 0 where
-  pub read : object_fault bytes ≡ None
+-- the objects are linked, and the need of the promise is printed
+pub record LinksTo (o : LinkOptions) (objects : List Object) (m : Made) : Type 0 where
   pub linked : Linked
-  pub link : IsLinked (object_in bytes ∷ []) DEFAULT_LIMIT linked
-  pub is : m ≡ made status.Ok (Some linked.file) (summary linked DEFAULT_LIMIT 0)
+  pub link : IsLinked objects o linked
+  pub is : m ≡ made status.Ok (Some linked.file) (summary linked link.image.need o.limit o.stack_syms)
 
--- it isn't of the first form
-pub record LinksNot (name bytes : List ℕ) (m : Made) : Type 0 where
-  pub read : object_fault bytes ≡ None
-  pub other : IsFirst (object_in bytes) → ⊥
-  pub is : m ≡ refused (form_line name)
+-- they have this fault
+pub record LinksNot (o : LinkOptions) (names : List (List ℕ)) (objects : List Object) (m : Made) : Type 0 where
+  pub fault : LinkFault
+  pub has : IsLinkFault objects o fault
+  pub told : fault ≢ links.OutOfMemory
+  pub is : m ≡ refused (link_line names fault)
 
 -- a check of the file fails, the first at this offset
 pub record ReadsNot (fault : Option ElfFault) (name : List ℕ) (m : Made) : Type 0 where
@@ -91,8 +103,29 @@ pub record ReadsNot (fault : Option ElfFault) (name : List ℕ) (m : Made) : Typ
   pub first : fault ≡ Some (faults.Fault kind offset)
   pub is : m ≡ refused (elf_line kind name offset)
 
-abbrev pub MakesLink : List ℕ → List ℕ → Made → Type 0
-MakesLink name bytes m = LinksTo bytes m ⊎ (LinksNot name bytes m ⊎ ReadsNot (object_fault bytes) name m)
+-- each file stands for an object
+abbrev pub AreObjects : List (List ℕ) → Type 0
+AreObjects files = All (λ bytes. object_fault bytes ≡ None) files
+
+-- the first file that stands for none
+pub record ReadsNotAll (names files : List (List ℕ)) (m : Made) : Type 0 where
+  pub at : ℕ
+  pub there : at < length files
+  pub earlier : AreObjects (take at files)
+  pub made : ReadsNot (object_fault (slice_index_or files at [])) (slice_index_or names at []) m
+
+-- the files stand for objects that are linked, or that have a fault
+pub record LinksOrNot (o : LinkOptions) (names files : List (List ℕ)) (m : Made) : Type 0 where
+  pub read : AreObjects files
+  pub made : LinksTo o (map object_in files) m ⊎ LinksNot o names (map object_in files) m
+
+abbrev pub MakesLink : LinkOptions → List (List ℕ) → List (List ℕ) → Made → Type 0
+MakesLink o names files m = LinksOrNot o names files m ⊎ ReadsNotAll names files m
+
+-- the objects that are read of files, or what is made where one can't be read
+abbrev pub ReadsOrNot : List (List ℕ) → List (List ℕ) → Result (List Object) Made → Type 0
+ReadsOrNot names files (Ok objects) = AreObjects files × (objects ≡ map object_in files) × All IsWellFormed objects
+ReadsOrNot names files (Err m) = ReadsNotAll names files m
 
 -- ---- asm
 
@@ -110,6 +143,23 @@ pub record AssemblesNot (text : List ℕ) (m : Made) : Type 0 where
 
 abbrev pub MakesAssemble : List ℕ → Made → Type 0
 MakesAssemble text m = AssemblesTo text m ⊎ AssemblesNot text m
+
+-- ---- map
+
+-- the bytes spell an executable
+pub record IsExec (exec : Exec) (bytes : List ℕ) : Type 0 where
+  pub read : exec_fault bytes ≡ None
+  pub valid : IsValidExec exec
+  pub spelled : spell_exec exec ≡ bytes
+
+-- its map is put
+pub record MapsTo (bytes : List ℕ) (m : Made) : Type 0 where
+  pub exec : Exec
+  pub is_exec : IsExec exec bytes
+  pub is : m ≡ made status.Ok None (map_text exec)
+
+abbrev pub MakesMap : List ℕ → List ℕ → Made → Type 0
+MakesMap name bytes m = MapsTo bytes m ⊎ ReadsNot (exec_fault bytes) name m
 
 -- ---- run
 
@@ -214,12 +264,6 @@ MakesRunOf options name bytes files m =
 
 -- ---- embed
 
--- the bytes spell an executable
-pub record IsExec (exec : Exec) (bytes : List ℕ) : Type 0 where
-  pub read : exec_fault bytes ≡ None
-  pub valid : IsValidExec exec
-  pub spelled : spell_exec exec ≡ bytes
-
 -- it is embedded, and nothing is put
 pub record EmbedsTo (handle bytes : List ℕ) (m : Made) : Type 0 where
   pub exec : Exec
@@ -251,13 +295,15 @@ first xs = slice_index_or xs 0 []
 
 abbrev pub MakesBy : Action → List (List ℕ) → List (List ℕ) → Made → Type 0
 MakesBy action.Assemble names files = MakesAssemble (first files)
-MakesBy action.Link names files = MakesLink (first names) (first files)
+MakesBy (action.Link options) names files = MakesLink options names files
+MakesBy action.Map names files = MakesMap (first names) (first files)
 MakesBy (action.Embed handle) names files = MakesEmbed handle (first names) (first files)
 MakesBy (action.Run options) names files = MakesRunOf options (first names) (first files) (drop 1 files)
 
 -- how many files an action has, and what its options keep
 abbrev pub IsComplete : Action → ℕ → Type 0
 IsComplete action.Assemble files = 1 ≤ files
-IsComplete action.Link files = 1 ≤ files
+IsComplete (action.Link options) files = (1 ≤ files) × (files ≤ MAX_OBJECTS) × AreLinkSound options
+IsComplete action.Map files = 1 ≤ files
 IsComplete (action.Embed handle) files = (1 ≤ files) × IsName handle
 IsComplete (action.Run options) files = (files ≡ 1 + length options.places) × AreSound options

@@ -1,4 +1,4 @@
-//! The tool: texts are assembled, objects are linked, and executables are embedded and run.
+//! The tool: texts are assembled, objects are linked, and executables are mapped, embedded and run.
 #![tactic(auto)]
 
 mod areas;
@@ -11,9 +11,14 @@ mod embed_command;
 mod fault_lines;
 mod laws;
 mod link_command;
+mod link_lines;
+#[cfg(test)]
+mod link_tests;
 mod lists;
 mod made;
 mod making;
+mod names;
+mod map_command;
 mod numbers;
 mod options;
 mod reading;

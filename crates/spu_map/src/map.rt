@@ -1,0 +1,117 @@
+//! Where the segments and the symbols of an executable lie, as text.
+
+ghost use Rattle.std.specs.Prelude.{◌≡◌, ◌≤◌, length, string_bytes, IfOk};
+ghost use Rattle.std.specs.List.{All, flat_map};
+ghost use Rattle.spu_elf.specs.Rows.{front_size};
+ghost use Rattle.spu_elf.specs.Validity.{IsValidExec};
+ghost use Rattle.spu_elf.specs.declared.constants.TheConstants.{MAX_SEGMENTS};
+ghost use Rattle.spu_ls.specs.Entries.{image_place};
+ghost use Rattle.spu_map.specs.Maps.{form_name, image_line, segment_line, segment_lines, symbol_line, map_text};
+ghost use Rattle.spu_word.specs.declared.limits.TheConstants.{MAX_FILE_SIZE};
+
+use crate::texts::named_line;
+use spu_elf::constants::{EHDR_SIZE, PHDR_SIZE, SEGMENT_ALIGN};
+use spu_elf::spelling::gap;
+use spu_elf::{Exec, Segment, SymKind, SymPlace, Symbol};
+use spu_ls::image_place;
+use spu_word::{Bytes, OutOfMemory, Seq};
+use std::alloc::Global;
+
+/// What kind of image has these symbols.
+fn form_name(symbols: &[Symbol]) -> &'static str
+    ensures { result.now ≡ form_name (image_place symbols.now) }
+{
+    match image_place(symbols) {
+        Some(_) => "overlay",
+        None => "flat",
+    }
+}
+
+/// The kind of an image, and where it starts.
+fn image_line(alloc: Global, x: &Exec) -> Result<String, OutOfMemory>
+    ensures { IfOk result (λ t. string_bytes t ≡ image_line x.now) }
+{
+    let form = form_name(x.symbols.as_slice());
+    let entry = x.entry;
+    Ok(format!(in alloc; "image {form} entry {entry}\n")?)
+}
+
+/// The line of segment k, which begins at this offset of the file.
+fn segment_line(alloc: Global, k: usize, s: &Segment, offset: usize) -> Result<String, OutOfMemory>
+    ensures { IfOk result (λ t. string_bytes t ≡ segment_line k s.now offset) }
+{
+    let address = s.address;
+    let size = s.bytes.len();
+    if k == 0 {
+        Ok(format!(in alloc; "load {address} {size}\n")?)
+    } else {
+        Ok(format!(in alloc; "region {k} {address} {size} {offset}\n")?)
+    }
+}
+
+/// A line for each segment.
+#[tactic(auto, using(crate::proofs::Maps::lines_from, crate::proofs::Maps::lines_done))]
+fn segment_lines(alloc: Global, segments: &[Segment]) -> Result<Bytes, OutOfMemory>
+    requires few { length segments.now ≤ MAX_SEGMENTS }
+    requires small { All (λ (s : Segment). length s.bytes ≤ MAX_FILE_SIZE) segments.now }
+    ensures { IfOk result (λ t. t ≡ segment_lines 0 (front_size (length segments.now)) segments.now) }
+{
+    let mut text = Seq::new(alloc);
+    let mut end = EHDR_SIZE + PHDR_SIZE * segments.len();
+    for (k, s) in segments.iter().enumerate() {
+        let offset = end + gap(SEGMENT_ALIGN, end);
+        text.extend(segment_line(alloc, k, s, offset)?.as_bytes())?;
+        end = offset + s.bytes.len();
+    }
+    Ok(text)
+}
+
+/// The line of a symbol.
+fn symbol_line(alloc: Global, s: &Symbol) -> Result<Bytes, OutOfMemory>
+    ensures { IfOk result (λ t. t ≡ symbol_line s.now) }
+{
+    let name = s.name.as_slice();
+    let value = s.value;
+    let size = s.size;
+    match (s.place, s.kind) {
+        (SymPlace::Absolute, _) => {
+            let front = format!(in alloc; "abs {value} ")?;
+            Ok(named_line(alloc, front.as_str(), name)?)
+        }
+        (SymPlace::Inside(region), SymKind::Function) => {
+            let front = format!(in alloc; "func {value} {size} {region} ")?;
+            Ok(named_line(alloc, front.as_str(), name)?)
+        }
+        (SymPlace::Inside(_) | SymPlace::Undefined, _) => {
+            let front = format!(in alloc; "object {value} {size} ")?;
+            Ok(named_line(alloc, front.as_str(), name)?)
+        }
+    }
+}
+
+/// A line for each symbol.
+fn symbol_lines(alloc: Global, symbols: &[Symbol]) -> Result<Bytes, OutOfMemory>
+    ensures { IfOk result (λ t. t ≡ flat_map symbol_line symbols.now) }
+{
+    let mut text = Seq::new(alloc);
+    for s in symbols {
+        text.extend(symbol_line(alloc, s)?.as_slice())?;
+    }
+    Ok(text)
+}
+
+/// Where an executable starts, and where its segments and its symbols lie: `image flat entry ENTRY`, or `image overlay
+/// entry ENTRY` where there is a global object `__image_ea`; `load ADDRESS SIZE`; for each region `region NUMBER ADDRESS
+/// SIZE OFFSET`, with the offset of its bytes in the file; and for each symbol, in order, `abs VALUE NAME`, `func ADDRESS
+/// SIZE REGION NAME` for a function in a segment (region 0 is the root), or `object ADDRESS SIZE NAME`. Addresses and
+/// sizes are in bytes.
+#[tactic(auto, using(spu_elf::proofs::ImageFiles::small_segments))]
+pub fn map_text(alloc: Global, x: &Exec) -> Result<Bytes, OutOfMemory>
+    requires { IsValidExec x.now }
+    ensures { IfOk result (λ t. t ≡ map_text x.now) }
+{
+    let mut text = Seq::copied(alloc, image_line(alloc, x)?.as_bytes())?;
+    text.extend(segment_lines(alloc, x.segments.as_slice())?.as_slice())?;
+    text.extend(symbol_lines(alloc, x.symbols.as_slice())?.as_slice())?;
+    Ok(text)
+}
