@@ -3,8 +3,6 @@
 
 pub mod accumulating;
 mod assembly;
-#[cfg(test)]
-mod assembly_tests;
 mod contents;
 pub mod directives;
 mod faults;

@@ -13,6 +13,3 @@ mod unpacking;
 pub use embedding::embed;
 pub use faults::CesofFault;
 pub use unpacking::unpack;
-
-#[cfg(test)]
-mod tests;

@@ -10,3 +10,4 @@ pub mod Transfers
 pub mod Tags
 pub mod Areas
 pub mod Entries
+pub mod Admission

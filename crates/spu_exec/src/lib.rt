@@ -2,20 +2,21 @@
 #![tactic(auto)]
 
 mod applying;
+pub mod areas;
 mod bytes;
 pub mod channels;
+mod entries;
 mod halfwords;
 mod law;
 mod places;
 mod quads;
 mod sources;
 mod tags;
-#[cfg(test)]
-mod tests;
 mod transfers;
 mod words;
 
 pub use applying::{apply, apply_to};
+pub use entries::{address_quad, quad_for};
 pub use law::{address_law, halt_law, lane_law, move_law, test_law, value_law};
 pub use places::{address, halts, test};
 pub use sources::{Extent, Source, is_addressed, is_tested, names, reads};

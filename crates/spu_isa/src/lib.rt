@@ -10,8 +10,6 @@ mod names;
 mod operation;
 mod registers;
 mod table;
-#[cfg(test)]
-mod tests;
 
 pub use decoding::decode;
 pub use encoding::encode;

@@ -11,7 +11,7 @@ use Rattle.spu_exec.specs.Places.{code_mask}
 use Rattle.spu_exec.specs.Values.{HasBytes}
 use Rattle.spu_ls.specs.Stores.{Store, load}
 use Rattle.spu_ls.specs.Machine.{State, goes}
-use Rattle.spu_loader.specs.declared.constants.TheConstants.{RETURN_OFFSET, LOADER_CODE_SIZE}
+use Rattle.spu_plan.specs.declared.constants.TheConstants.{RETURN_OFFSET, LOADER_CODE_SIZE}
 use Rattle.spu_loader.specs.Forms.{rr, wide}
 use Rattle.spu_loader.specs.Code.{return_quad, return_code, stub_code}
 use Rattle.spu_loader.specs.Overlays.{Overlay, buffer_of, slot_of, IsLaid, IsReady, IsStub, IsLink, Direct, Kept}

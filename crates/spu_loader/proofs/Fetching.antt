@@ -8,7 +8,7 @@ use Rattle.spu_exec.specs.Places.{code_mask, quad_mask}
 use Rattle.spu_exec.specs.Values.{HasBytes}
 use Rattle.spu_ls.specs.Stores.{load, save}
 use Rattle.spu_ls.specs.Machine.{State, goes, saves}
-use Rattle.spu_loader.specs.declared.constants.TheConstants.{LOADER_SIZE}
+use Rattle.spu_plan.specs.declared.constants.TheConstants.{LOADER_SIZE}
 use Rattle.spu_loader.specs.declared.table.Loader.{Loader}
 use Rattle.spu_loader.specs.Forms.{rr, ri, wide}
 use Rattle.spu_loader.specs.Code.{test_code, fetch_code}

@@ -12,7 +12,7 @@ use Rattle.spu_exec.specs.Transfers.{Stretch}
 use Rattle.spu_ls.specs.Landing.{land}
 use Rattle.spu_exec.specs.Tags.{with_tags, without_tags}
 use Rattle.spu_ls.specs.Machine.{State}
-use Rattle.spu_loader.specs.declared.constants.TheConstants.{LOADER_SIZE, LOADER_CODE_SIZE}
+use Rattle.spu_plan.specs.declared.constants.TheConstants.{LOADER_SIZE, LOADER_CODE_SIZE}
 use Rattle.spu_loader.specs.Code.{image_quad, step_quad, fetch_code, command_code, wait_code}
 use Rattle.spu_loader.specs.Overlays.{Overlay, buffer_of, place_of, entry_of, slot_of, IsRegion, IsLaid, IsReady}
 use Rattle.spu_loader.specs.Entries.{is_within, is_slot}

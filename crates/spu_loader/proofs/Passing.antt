@@ -6,7 +6,7 @@ use Rattle.spu_isa.specs.declared.instruction.Inst.{Inst}
 use Rattle.spu_exec.specs.Places.{code_mask}
 use Rattle.spu_ls.specs.Stores.{Store}
 use Rattle.spu_ls.specs.Machine.{State}
-use Rattle.spu_loader.specs.declared.constants.TheConstants.{LOADER_CODE_SIZE}
+use Rattle.spu_plan.specs.declared.constants.TheConstants.{LOADER_CODE_SIZE}
 use Rattle.spu_loader.specs.Code.{exit_code}
 use Rattle.spu_loader.specs.Overlays.{Overlay, IsLaid, IsMapped, IsReady}
 use Rattle.spu_loader.specs.Entries.{is_slot, is_loaded}

@@ -7,7 +7,7 @@ use Rattle.spu_exec.specs.Lanes.{ones_where}
 use Rattle.spu_exec.specs.Places.{code_mask, quad_mask}
 use Rattle.spu_ls.specs.Stores.{load}
 use Rattle.spu_ls.specs.Machine.{State, goes}
-use Rattle.spu_loader.specs.declared.constants.TheConstants.{LOADER_SIZE}
+use Rattle.spu_plan.specs.declared.constants.TheConstants.{LOADER_SIZE}
 use Rattle.spu_loader.specs.declared.table.Loader.{Loader}
 use Rattle.spu_loader.specs.Forms.{rr, ri, wide}
 use Rattle.spu_loader.specs.Code.{return_quad, words_ahead, relink_code, exit_code, return_code}

@@ -6,7 +6,7 @@ use Rattle.spu_isa.specs.declared.instruction.Inst.{Inst}
 use Rattle.spu_ls.specs.Stores.{load}
 use Rattle.spu_exec.specs.Tags.{waits}
 use Rattle.spu_ls.specs.Machine.{State}
-use Rattle.spu_loader.specs.declared.constants.TheConstants.{RETURN_OFFSET, LOADER_CODE_SIZE}
+use Rattle.spu_plan.specs.declared.constants.TheConstants.{RETURN_OFFSET, LOADER_CODE_SIZE}
 use Rattle.spu_loader.specs.declared.table.Loader.{Loader}
 use Rattle.spu_loader.specs.Code.{image_quad, relink_code, test_code, fetch_code, command_code, wait_code, exit_code, return_code, loader_code, IsLoader}
 use Rattle.spu_loader.specs.Overlays.{Overlay, buffer_of, place_of, slot_of, IsRegion, IsLaid, Holds, HoldsFile, HasBuffer, IsReady}

@@ -8,7 +8,8 @@ use Rattle.spu_ls.specs.Stores.{fetch}
 use Rattle.spu_ls.specs.Machine.{State, step, steps}
 use Rattle.spu_ls.specs.Hops.{settles, Along}
 use Rattle.spu_ls.specs.Loads.{load_count}
-use Rattle.spu_loader.specs.declared.constants.TheConstants.{FIRST_REGISTER, LAST_REGISTER, LINK_REGISTER, LOADER_CODE_SIZE, LOADER_SIZE, STACK_REGISTER, STUB_SIZE}
+use Rattle.spu_plan.specs.declared.constants.TheConstants.{LOADER_CODE_SIZE, LOADER_SIZE, STUB_SIZE}
+use Rattle.spu_loader.specs.declared.constants.TheConstants.{FIRST_REGISTER, LAST_REGISTER, LINK_REGISTER, STACK_REGISTER}
 use Rattle.spu_loader.specs.Code.{mapped_at}
 use Rattle.spu_loader.specs.Overlays.{Overlay, place_of, slot_of, return_entry_of, IsRegion, IsLaid, IsMapped, IsReady, IsStub, IsLink, link_into}
 

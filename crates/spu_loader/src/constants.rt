@@ -1,22 +1,17 @@
-//! The numbers of the loader: its words, what stands behind them, and its transfers.
+//! The numbers of the loader: its words, and its transfers. How many bytes it takes, and what stands behind its words, is
+//! known of plans.
+
+use spu_plan::constants::{LOADER_CODE_SIZE, RETURN_OFFSET, STUB_SIZE};
+use spu_word::limits::WORD_SIZE;
 
 /// How many words the loader has.
 pub const LOADER_WORDS: usize = 66;
-
-/// Their bytes.
-pub const LOADER_CODE_SIZE: u32 = 264;
-
-/// The bytes of its words and of the two zero words behind them. The mapped quadwords follow, one for each buffer.
-pub const LOADER_SIZE: u32 = 272;
 
 /// Bytes that its words and quadwords never fill, whatever the number of buffers.
 pub const LOADER_ROOM: u32 = 512;
 
 /// The word to which a return into a region comes.
 pub const RETURN_WORD: u32 = 63;
-
-/// Where it stands, in bytes behind the loader's first word.
-pub const RETURN_OFFSET: u32 = 4 * RETURN_WORD;
 
 /// The word that tests whether a region is mapped.
 pub const TEST_WORD: u32 = 15;
@@ -38,9 +33,6 @@ pub const EXIT_WORD: u32 = 62;
 
 /// The words of a stub.
 pub const STUB_WORDS: usize = 4;
-
-/// Their bytes.
-pub const STUB_SIZE: u32 = 16;
 
 /// The tag of the loader's transfers.
 pub const LOADER_TAG: u32 = 31;
@@ -65,3 +57,9 @@ pub const FIRST_REGISTER: u32 = 75;
 
 /// The last of them.
 pub const LAST_REGISTER: u32 = 79;
+
+const _: () = prove!(WORD_SIZE * LOADER_WORDS as u32 == LOADER_CODE_SIZE);
+
+const _: () = prove!(WORD_SIZE * RETURN_WORD == RETURN_OFFSET);
+
+const _: () = prove!(WORD_SIZE * STUB_WORDS as u32 == STUB_SIZE);

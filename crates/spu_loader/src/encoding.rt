@@ -4,7 +4,8 @@ ghost use Rattle.std.specs.Prelude.{◌≡◌, ◌+◌, ◌*◌, ◌%◌, ◌<�
 ghost use Rattle.spu_word.specs.declared.limits.TheConstants.{STORE_SIZE, WORD_SIZE};
 ghost use Rattle.spu_isa.specs.Decoding.{decoded};
 ghost use Rattle.spu_isa.specs.Table.{InRange};
-ghost use Rattle.spu_loader.specs.declared.constants.TheConstants.{LOADER_ROOM, STUB_SIZE};
+ghost use Rattle.spu_plan.specs.declared.constants.TheConstants.{STUB_SIZE};
+ghost use Rattle.spu_loader.specs.declared.constants.TheConstants.{LOADER_ROOM};
 ghost use Rattle.spu_loader.specs.Forms.{AreWordsOf};
 ghost use Rattle.spu_loader.specs.Code.{IsBufferCount, IsBufferSize, IsLoader, loader_code, stub_code};
 

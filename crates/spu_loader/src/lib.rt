@@ -6,8 +6,6 @@ mod encoding;
 mod forms;
 mod laws;
 mod table;
-#[cfg(test)]
-mod tests;
 
 pub use encoding::{loader_words, stub_words};
 pub use laws::{

@@ -5,7 +5,7 @@ ghost use Rattle.spu_word.specs.declared.limits.TheConstants.{STORE_SIZE, WORD_S
 ghost use Rattle.spu_loader.specs.Forms.{channel as channel_form};
 ghost use Rattle.spu_isa.specs.declared.operation.Op.TheVariants as op;
 ghost use Rattle.spu_exec.specs.declared.channels.TheConstants.{MFC_CMD};
-ghost use Rattle.spu_loader.specs.declared.constants.TheConstants.{STUB_SIZE};
+ghost use Rattle.spu_plan.specs.declared.constants.TheConstants.{STUB_SIZE};
 ghost use Rattle.spu_loader.specs.Code.{
   IsLoader,
   describe_code,
@@ -25,13 +25,14 @@ ghost use Rattle.spu_loader.specs.Code.{
   words_ahead,
 };
 
-use crate::constants::{COMMAND_WORD, EXIT_WORD, LOADER_SIZE, LOADER_TAG, STUB_WORDS, TEST_WORD};
+use crate::constants::{COMMAND_WORD, EXIT_WORD, LOADER_TAG, STUB_WORDS, TEST_WORD};
 use crate::forms::{channel, immediate, ri, rr, rrr, wide, wrapped};
 use spu_exec::channels::{
     MFC_CMD, MFC_EAH, MFC_EAL, MFC_GET, MFC_LSA, MFC_RD_TAG_MASK, MFC_RD_TAG_STAT, MFC_SIZE,
     MFC_TAG_ID, MFC_WR_TAG_MASK, MFC_WR_TAG_UPDATE, UPDATE_ALL,
 };
 use spu_isa::{Inst, Op};
+use spu_plan::constants::LOADER_SIZE;
 use spu_word::limits::{MAX_TRANSFER_SIZE, QUAD_SIZE, WORD_SIZE};
 
 /// The numbers of a layout on which the loader depends.

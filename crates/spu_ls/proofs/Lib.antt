@@ -11,5 +11,4 @@ pub mod Memories
 pub mod Sounding
 pub mod Beginning
 pub mod Unwritten
-pub mod Trials
 pub mod Registers

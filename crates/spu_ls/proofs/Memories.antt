@@ -15,7 +15,7 @@ use Rattle.spu_exec.specs.Transfers.{Stretch, stretch_of, holds_range, is_taken,
 use Rattle.spu_exec.specs.Areas.{bytes_at, with_bytes, first_holding, area_with, written_in, written}
 use Rattle.spu_ls.specs.Stores.{Store, bytes_from, placed}
 use Rattle.spu_ls.specs.Landing.{Memory, land_by, land}
-use Rattle.spu_ls.specs.Loading.{shares, first_overlap, is_in_range, first_unfit}
+use Rattle.spu_exec.specs.Admission.{shares, first_overlap, is_in_range, first_unfit}
 use Rattle.spu_ls.specs.Sound.{AreBytes, AreTaken, IsSoundMemory}
 use Rattle.spu_ls.proofs.Landed.{holds_from}
 

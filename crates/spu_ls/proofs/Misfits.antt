@@ -20,7 +20,9 @@ use Rattle.spu_elf.specs.declared.executables.Exec.{Exec}
 use Rattle.spu_exec.specs.Transfers.{Stretch}
 use Rattle.spu_ls.specs.declared.entries.TheConstants.{PREFIX_SIZE}
 use Rattle.spu_ls.specs.Entries.{is_object, is_entry, area_name, image_place}
-use Rattle.spu_ls.specs.Loading.{symbol_at, is_area, is_unresolved, first_unresolved, overlaps, first_overlap, is_in_range, first_unfit, is_in_store, first_outside, is_in_root, is_entry_inside, is_image_inside, are_inside, or_else, misfit_of}
+use Rattle.spu_exec.specs.Admission.{is_area, first_overlap, is_in_range, first_unfit}
+use Rattle.spu_exec.proofs.Admission.{overlap_below}
+use Rattle.spu_ls.specs.Loading.{symbol_at, is_unresolved, first_unresolved, is_in_store, first_outside, is_in_root, is_entry_inside, is_image_inside, are_inside, or_else, misfit_of}
 use Rattle.spu_ls.specs.declared.admission.Misfit.{Misfit}
 use Rattle.spu_ls.specs.declared.admission.Misfit.TheVariants as misfits
 use Rattle.spu_ls.specs.Start.{image_of}
@@ -86,14 +88,6 @@ unresolved_in x file i k e =
     let at = position-Some (λ (s : Symbol). is_unresolved i.areas s) x.symbols k no_symbol (first_is (first_unresolved x.symbols i.areas) _ _ _ _ k e) in
     let entry = and_parts (is_entry (symbol_at x.symbols k)) (not (is_area i.areas (area_name (symbol_at x.symbols k)))) at.1 in
     (at.0, long (symbol_at x.symbols k) entry.0)
-
-overlap_below : (image : Stretch) (before areas : List Area) (k : ℕ) → first_overlap image before areas ≡ Some k → k < length before + length areas
-overlap_below image before [] k e = absurd cc
-overlap_below image before (a ∷ areas) k e =
-    elim (overlaps image before a) as (λ b. (if b then Some (length before) else first_overlap image (before ++ a ∷ []) areas) ≡ Some k → k < length before + suc (length areas)) [
-      | true ↦ λ h. let same : length before ≡ k = cc in omega arith
-      | false ↦ λ h. let lt = overlap_below image (before ++ a ∷ []) areas k h in omega (arith, lt, length-append before (a ∷ []))
-    ] e
 
 pub overlap_in : (x : Exec) (file : List ℕ) (i : Inputs) (k : ℕ) → misfit_of x file i ≡ Some (misfits.Overlap k) → k < length i.areas
 overlap_in x file i k e =

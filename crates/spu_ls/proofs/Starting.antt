@@ -3,7 +3,6 @@ use Rattle.std.proofs.Common.{◌≡◌, ℕ, ◌+◌, ◌/◌, ◌%◌, ◌^◌
 use Rattle.std.proofs.Math.Path.{fun_ext}
 use Rattle.std.proofs.lemmas.Bool.Decides.{nat_tests}
 use Rattle.std.specs.Prelude.{slice_get, if◌then◌else◌, Option, filter, map}
-use Rattle.spu_word.specs.Bytes.{quad_of, be_digits}
 use Rattle.spu_word.specs.declared.load.Inputs.{Inputs}
 use Rattle.spu_elf.specs.declared.executables.Segment.{Segment}
 use Rattle.spu_elf.specs.declared.executables.Exec.{Exec}
@@ -14,18 +13,6 @@ use Rattle.spu_ls.specs.Entries.{is_entry, entry_of, entries_of, area_name, imag
 use Rattle.spu_ls.specs.Machine.{State}
 use Rattle.spu_ls.specs.Start.{loaded, image_of, with_entries, start, started}
 use Rattle.spu_ls.specs.View.{places, enters, enters_all, enters_image}
-
--- the digits of a number are those of its low word
-pub low_word : (a b n : ℕ) → quad_of a b (n % 2 ^ 32) 0 ≡ quad_of a b n 0
-low_word a b n = ap (λ (ds : List ℕ). be_digits a ++ (be_digits b ++ (ds ++ be_digits 0))) (four n)
-  where
-    four : (n : ℕ) → be_digits (n % 2 ^ 32) ≡ be_digits n
-    four n =
-        let p : n % 2 ^ 32 / 256 ^ 3 % 256 ≡ n / 256 ^ 3 % 256 = omega arith in
-        let q : n % 2 ^ 32 / 256 ^ 2 % 256 ≡ n / 256 ^ 2 % 256 = omega arith in
-        let r : n % 2 ^ 32 / 256 % 256 ≡ n / 256 % 256 = omega arith in
-        let t : n % 2 ^ 32 % 256 ≡ n % 256 = omega arith in
-        cc
 
 loaded_first : (ss : List Segment) (s : Segment) → slice_get ss 0 ≡ Some s → loaded ss ≡ placed s.address s.bytes (λ k. 0)
 loaded_first [] s e = absurd cc

@@ -1,8 +1,7 @@
 -- Which inputs a load takes, and what it refuses. The rules are this project's own.
-use Rattle.std.specs.Prelude.{◌≡◌, ℕ, ◌+◌, ◌*◌, ◌%◌, ◌^◌, ◌≤◌, ◌==◌, ◌&&◌, ◌||◌, nat_le, nat_lt, not, if◌then◌else◌, Bool, true, false, List, [], ◌∷◌, ◌++◌, length, slice_get, slice_index_or, Option, Some, None, option_map}
-use Rattle.std.specs.List.{position, list_any, list_all}
-use Rattle.std.specs.Str.{bytes_eq}
-use Rattle.spu_word.specs.declared.limits.TheConstants.{MAX_AREA_SIZE, MAX_AREAS, MAX_FILE_SIZE, MAX_MAIL, QUAD_SIZE, STORE_SIZE}
+use Rattle.std.specs.Prelude.{◌≡◌, ℕ, ◌+◌, ◌*◌, ◌%◌, ◌^◌, ◌≤◌, ◌==◌, ◌&&◌, ◌||◌, nat_le, not, if◌then◌else◌, Bool, true, false, List, [], ◌∷◌, length, slice_get, slice_index_or, Option, Some, None, option_map}
+use Rattle.std.specs.List.{position, list_all}
+use Rattle.spu_word.specs.declared.limits.TheConstants.{MAX_AREAS, MAX_FILE_SIZE, MAX_MAIL, QUAD_SIZE, STORE_SIZE}
 use Rattle.spu_word.specs.declared.load.Area.{Area}
 use Rattle.spu_word.specs.declared.load.Inputs.{Inputs}
 use Rattle.spu_word.specs.declared.load.LoadFault.{LoadFault}
@@ -13,7 +12,7 @@ use Rattle.spu_elf.specs.declared.objects.Symbol.{Symbol}
 use Rattle.spu_elf.specs.declared.objects.SymKind.TheVariants as kinds
 use Rattle.spu_elf.specs.declared.objects.SymPlace.TheVariants as places
 use Rattle.spu_elf.specs.declared.executables.Exec.{Exec}
-use Rattle.spu_exec.specs.Transfers.{Stretch, stretch_of}
+use Rattle.spu_exec.specs.Admission.{area_at, is_area, first_overlap, first_unfit}
 use Rattle.spu_ls.specs.Entries.{is_entry, area_name, image_place}
 use Rattle.spu_ls.specs.Start.{image_of}
 use Rattle.spu_ls.specs.declared.admission.Misfit.{Misfit}
@@ -31,40 +30,16 @@ pub record IsAdmitted (i : Inputs) : Type 0 where
   pub distinct : AreDistinct i.areas
   pub mail : length i.mail ≤ MAX_MAIL
 
--- the symbol and the area of an index that there is
+-- the symbol of an index that there is
 abbrev pub symbol_at : List Symbol → ℕ → Symbol
 symbol_at symbols k = slice_index_or symbols k (record { name = []; value = 0; size = 0; kind = kinds.Plain; global = false; place = places.Undefined })
 
-abbrev pub area_at : List Area → ℕ → Area
-area_at areas k = slice_index_or areas k (record { name = []; ea = 0; bytes = [] })
-
 -- M1: the first entry that has no area
-abbrev pub is_area : List Area → List ℕ → Bool
-is_area areas name = list_any (λ (a : Area). bytes_eq a.name name) areas
-
 abbrev pub is_unresolved : List Area → Symbol → Bool
 is_unresolved areas s = is_entry s && not (is_area areas (area_name s))
 
 abbrev pub first_unresolved : List Symbol → List Area → Option ℕ
 first_unresolved symbols areas = position (λ (s : Symbol). is_unresolved areas s) symbols
-
--- M2: the first area that shares a byte with the file or with an area before it
-abbrev pub shares : Stretch → Stretch → Bool
-shares x y = nat_lt 0 (length x.bytes) && (nat_lt 0 (length y.bytes) && (nat_lt x.ea (y.ea + length y.bytes) && nat_lt y.ea (x.ea + length x.bytes)))
-
-abbrev pub overlaps : Stretch → List Area → Area → Bool
-overlaps image before a = shares (stretch_of a) image || list_any (λ (b : Area). shares (stretch_of a) (stretch_of b)) before
-
-abbrev pub first_overlap : Stretch → List Area → List Area → Option ℕ
-first_overlap image before [] = None
-first_overlap image before (a ∷ areas) = if overlaps image before a then Some (length before) else first_overlap image (before ++ a ∷ []) areas
-
--- M3: the first area that is empty, too long, not at a multiple of 16, or passes 2 ^ 64
-abbrev pub is_in_range : Area → Bool
-is_in_range a = nat_lt 0 (length a.bytes) && (nat_le (length a.bytes) MAX_AREA_SIZE && ((a.ea % QUAD_SIZE == 0) && nat_le (a.ea + length a.bytes) (2 ^ 64)))
-
-abbrev pub first_unfit : List Area → Option ℕ
-first_unfit areas = position (λ (a : Area). not (is_in_range a)) areas
 
 -- M4: the first segment that does not begin at a multiple of 16 or end inside the local store
 abbrev pub is_in_store : Segment → Bool
@@ -93,7 +68,7 @@ abbrev pub or_else : Option Misfit → Option Misfit → Option Misfit
 or_else (Some m) other = Some m
 or_else None other = other
 
--- the least of M1 to M4 that holds, at its first entry, area or segment
+-- the least of M1 to M4 that holds, at its first entry, area or segment; M2 and M3 are those of areas alone
 abbrev pub misfit_of : Exec → List ℕ → Inputs → Option Misfit
 misfit_of x file i =
     or_else (option_map misfits.Unresolved (first_unresolved x.symbols i.areas))

@@ -13,7 +13,7 @@ use Rattle.spu_exec.specs.Transfers.{Stretch, is_taken}
 use Rattle.spu_exec.specs.Values.{HasBytes}
 use Rattle.spu_exec.specs.declared.transfers.Transfer.{Transfer}
 use Rattle.spu_ls.specs.Landing.{Memory}
-use Rattle.spu_ls.specs.Loading.{first_overlap, first_unfit}
+use Rattle.spu_exec.specs.Admission.{first_overlap, first_unfit}
 use Rattle.spu_ls.specs.Machine.{State}
 
 abbrev pub AreBytes : List ℕ → Type 0

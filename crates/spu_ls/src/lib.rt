@@ -8,17 +8,12 @@ mod ending;
 mod entries;
 mod kept;
 mod landing;
-#[cfg(test)]
-mod load_tests;
 mod loading;
 mod local_store;
 mod soundness;
 mod stepping;
-#[cfg(test)]
-mod tests;
-#[cfg(test)]
-mod transfer_tests;
 
 pub use ending::{MAX_HOP_STEPS, RunEnd, Tick};
+pub use entries::image_place;
 pub use soundness::{start_is_sound, step_is_sound, step_leaves_registers};
 pub use stepping::Machine;

@@ -8,13 +8,14 @@ ghost use Rattle.spu_elf.specs.Validity.{IsValidExec};
 ghost use Rattle.spu_elf.specs.declared.constants.TheConstants.{MAX_SEGMENTS};
 ghost use Rattle.spu_ls.specs.declared.entries.TheConstants.{PREFIX_SIZE};
 ghost use Rattle.spu_ls.specs.Entries.{area_name};
-ghost use Rattle.spu_ls.specs.Loading.{symbol_at, area_at, IsAdmitted, first_outside, misfit_of, fault_of, load_fault};
+ghost use Rattle.spu_ls.specs.Loading.{symbol_at, IsAdmitted, first_outside, misfit_of, fault_of, load_fault};
 
 use crate::admission::{Misfit, misfit_of};
 use crate::entries::{area_name, image_place};
 use crate::stepping::Machine;
 use spu_elf::Exec;
-use spu_word::{Area, Inputs, LoadFault, OutOfMemory, Seq};
+use spu_exec::areas;
+use spu_word::{Inputs, LoadFault, OutOfMemory};
 use std::alloc::Global;
 
 /// The fault of an entry's name.
@@ -23,32 +24,7 @@ fn unresolved(alloc: Global, x: &Exec, k: usize) -> LoadFault
     requires long { PREFIX_SIZE ≤ length (symbol_at x.now.symbols k).name }
     ensures { (result ≡ faults.OutOfMemory) ⊎ (result ≡ faults.UnresolvedName (area_name (symbol_at x.now.symbols k))) }
 {
-    match Seq::copied(alloc, area_name(&x.symbols.as_slice()[k])) {
-        Ok(name) => LoadFault::UnresolvedName(name),
-        Err(_) => LoadFault::OutOfMemory,
-    }
-}
-
-/// The fault of an area that overlaps.
-fn overlap(alloc: Global, areas: &[Area], k: usize) -> LoadFault
-    requires { k < length areas.now }
-    ensures { (result ≡ faults.OutOfMemory) ⊎ (result ≡ faults.AreasOverlap (area_at areas.now k).name) }
-{
-    match Seq::copied(alloc, areas[k].name.as_slice()) {
-        Ok(name) => LoadFault::AreasOverlap(name),
-        Err(_) => LoadFault::OutOfMemory,
-    }
-}
-
-/// The fault of an area out of range.
-fn out_of_range(alloc: Global, areas: &[Area], k: usize) -> LoadFault
-    requires { k < length areas.now }
-    ensures { (result ≡ faults.OutOfMemory) ⊎ (result ≡ faults.AreaRange (area_at areas.now k).name) }
-{
-    match Seq::copied(alloc, areas[k].name.as_slice()) {
-        Ok(name) => LoadFault::AreaRange(name),
-        Err(_) => LoadFault::OutOfMemory,
-    }
+    areas::unresolved(alloc, area_name(&x.symbols.as_slice()[k]))
 }
 
 /// How a misfit is told, where there is memory for the name.
@@ -59,8 +35,8 @@ fn refusal(alloc: Global, x: &Exec, file: &[u8], inputs: &Inputs, misfit: Misfit
 {
     match misfit {
         Misfit::Unresolved(k) => unresolved(alloc, x, k),
-        Misfit::Overlap(k) => overlap(alloc, inputs.areas.as_slice(), k),
-        Misfit::OutOfRange(k) => out_of_range(alloc, inputs.areas.as_slice(), k),
+        Misfit::Overlap(k) => areas::overlap(alloc, inputs.areas.as_slice(), k),
+        Misfit::OutOfRange(k) => areas::out_of_range(alloc, inputs.areas.as_slice(), k),
         Misfit::Outside(k) => LoadFault::SegmentRange(k as u32),
     }
 }

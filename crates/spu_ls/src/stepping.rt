@@ -18,22 +18,23 @@ ghost use Rattle.spu_ls.specs.declared.ending.RunEnd.TheVariants as ending;
 
 use crate::channels::ChannelWords;
 use crate::ending::{RunEnd, Tick};
-use crate::entries::{area_name, image_quad, is_entry, quad_for};
+use crate::entries::{area_name, image_quad, is_entry};
 use crate::kept::Kept;
 use crate::landing::{get_from, put_to};
 use crate::local_store::{preferred, put_bytes, put_quad, quad_at, word_at};
 use spu_elf::Symbol;
+use spu_exec::areas::copied_areas;
 use spu_exec::channels::{
     INBOX_SIZE, MFC_CMD, MFC_EAH, MFC_EAL, MFC_LSA, MFC_RD_TAG_MASK, MFC_RD_TAG_STAT, MFC_SIZE,
     MFC_TAG_ID, MFC_WR_TAG_MASK, MFC_WR_TAG_UPDATE, SPU_RD_IN_MBOX, SPU_WR_OUT_MBOX, TAG_COUNT,
     count_of, is_counted, is_update,
 };
 use spu_exec::{
-    Form, Transfer, address, apply_to, form_of, halts, is_landing, is_taken, status, test,
+    Form, Transfer, address, apply_to, form_of, halts, is_landing, is_taken, quad_for, status, test,
 };
 use spu_isa::{Inst, Kind, Op, decode};
 use spu_word::limits::{OUTBOX_SIZE, QUEUE_SIZE, REGISTER_COUNT, STORE_SIZE, WORD_SIZE};
-use spu_word::{Area, Inputs, OutOfMemory, Quad, Seq, word};
+use spu_word::{Area, Inputs, OutOfMemory, Quad, word};
 use std::alloc::Global;
 
 /// The words of the local store.
@@ -85,21 +86,6 @@ fn code_word(address: u32) -> u32
     ensures inside { result + WORD_SIZE ≤ STORE_SIZE }
 {
     address / WORD_SIZE % WORD_COUNT * WORD_SIZE
-}
-
-/// Copies of areas.
-fn copied_areas(alloc: Global, areas: &[Area]) -> Result<Vec<Area>, OutOfMemory>
-    ensures { IfOk result (λ v. v.items ≡ areas.now) }
-{
-    let mut all = Vec::new(alloc);
-    for a in areas {
-        all.push(Area {
-            name: Seq::copied(alloc, a.name.as_slice())?,
-            ea: a.ea,
-            bytes: Seq::copied(alloc, a.bytes.as_slice())?,
-        })?;
-    }
-    Ok(all)
 }
 
 /// For each tag, whether transfers with it land where the status is read.

@@ -246,7 +246,9 @@ mod tests {
             c.remove(1);
         }
         assert_eq!(rt; behind(&c, 0), Some(2));
-        assert_eq!(rt; behind(&c, 1), None);
+        if c.slots.len() == 3 {
+            assert_eq!(rt; c.list_of(1), None);
+        }
         assert_eq!(rt; behind(&c, 2), None);
         if c.ends.len() == 2 {
             assert_eq!(rt; c.first(0), Some(0));

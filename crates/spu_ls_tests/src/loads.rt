@@ -4,9 +4,9 @@ ghost use Rattle.std.specs.Prelude.{◌≡◌, ◌≤◌, length, IfOk};
 ghost use Rattle.spu_word.specs.declared.limits.TheConstants.{MAX_AREAS};
 ghost use Rattle.spu_ls.specs.View.{state_of};
 
-use crate::tests::{IMAGE, bytes_of, image, load};
-use crate::{Machine, RunEnd};
+use crate::running::{IMAGE, bytes_of, image, load};
 use spu_elf::{Exec, Segment, SymKind, SymPlace, Symbol};
+use spu_ls::{Machine, RunEnd};
 use spu_word::{LoadFault, OutOfMemory, Seq};
 use std::alloc::Global;
 use std::test::Fail;

@@ -4,9 +4,9 @@ ghost use Rattle.std.specs.Prelude.{◌≡◌, ◌≤◌, length, IfOk};
 ghost use Rattle.spu_word.specs.declared.limits.TheConstants.{MAX_AREAS};
 ghost use Rattle.spu_ls.specs.View.{state_of};
 
-use crate::tests::{IMAGE, machine};
-use crate::{Machine, RunEnd};
+use crate::running::{IMAGE, machine};
 use spu_exec::channels::{MFC_GET, MFC_GETB, MFC_GETF, MFC_PUT, MFC_PUTB, MFC_PUTF};
+use spu_ls::{Machine, RunEnd};
 use spu_word::{OutOfMemory, Seq};
 use std::alloc::Global;
 use std::test::Fail;

@@ -1,7 +1,7 @@
 use Rattle.std.proofs.Common.{ℕ, ◌/◌, ◌%◌, ◌^◌, length, ap, ◌∙◌}
 use Rattle.spu_word.specs.Bytes.{quad_of}
-use Rattle.spu_ls.proofs.Starting.{low_word}
-use Rattle.spu_ls.proofs.entries.area_quad.Goals as goal
+use Rattle.spu_exec.proofs.LowWords.{low_word}
+use Rattle.spu_exec.proofs.entries.area_quad.Goals as goal
 
 pub returns : goal.returns
 returns c =

@@ -5,8 +5,8 @@ ghost use Rattle.spu_word.specs.declared.limits.TheConstants.{MAX_AREAS};
 ghost use Rattle.spu_ls.specs.Loading.{AreDistinct};
 ghost use Rattle.spu_ls.specs.View.{state_of};
 
-use crate::{Machine, RunEnd, Tick};
 use spu_elf::{Exec, Segment, write_exec};
+use spu_ls::{Machine, RunEnd, Tick};
 use spu_word::limits::MAX_MAIL;
 use spu_word::{Area, Bytes, Inputs, LoadFault, OutOfMemory, Seq};
 use std::alloc::Global;
@@ -67,7 +67,7 @@ fn inputs_of(alloc: Global, mail: &[u32], rows: &[(u64, &[u8])]) -> Result<Input
 }
 
 /// What a load of an executable with these inputs answers, where it has memory.
-#[tactic(auto, using(crate::proofs::Starting::no_steps))]
+#[tactic(auto, using(spu_ls::proofs::Starting::no_steps))]
 fn load_with(alloc: Global, x: &Exec, inputs: &Inputs) -> Result<Machine, LoadFault>
     requires distinct { AreDistinct inputs.now.areas }
     requires few { length inputs.now.areas ≤ MAX_AREAS }

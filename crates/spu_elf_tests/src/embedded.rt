@@ -1,4 +1,4 @@
-use super::*;
+use spu_cesof::*;
 use spu_elf::{Exec, Segment, SymKind, SymPlace, Symbol, is_name, write_exec};
 use spu_word::{Bytes, OutOfMemory, Seq};
 use std::alloc::Global;
