@@ -171,6 +171,8 @@ module _ (name : List ℕ) (size : ℕ) (code : List SymInst) where
       functions = lit≤ tt;
       sections = lit≤ tt;
       small = All-cons (λ (c : CodeSection). c.size ≤ MAX_SECTION_SIZE) (record { name = name; size = size }) [] (omega (arith, small)) (All-nil _);
+      filled = All-cons (λ (c : CodeSection). 1 ≤ c.size) (record { name = name; size = size }) [] (let words = first.some in omega (arith, words, count)) (All-nil _);
+      few_globals = lit≤ tt;
       start = refl;
       entry = callee;
       each = main_in;

@@ -3,3 +3,16 @@ pub mod StartCode
 pub mod FirstForm
 pub mod First
 pub mod WellFormed
+pub mod Tables
+pub mod Extents
+pub mod Meanings
+pub mod Lifted
+pub mod LiftFaults
+pub mod LookUps
+pub mod Placed
+pub mod Defined
+pub mod FunctionTables
+pub mod Checks
+pub mod TakenPlaces
+pub mod Gathered
+pub mod Built

@@ -2,7 +2,7 @@
 -- this alone. The operands of an instruction are those of the SPU ABI's relocations on it; the rest is this project's own.
 use Rattle.std.specs.Prelude.{◌≡◌, ◌≢◌, ℕ, ◌+◌, ◌*◌, ◌%◌, ◌^◌, ◌<◌, ◌≤◌, ◌⊎◌, Bool, true, false, List, [], ◌∷◌, ◌++◌, length, All, Some, slice_get, codes, pos}
 use Rattle.std.specs.List.{Contains}
-use Rattle.spu_word.specs.declared.limits.TheConstants.{DATA_START, MAX_SECTION_SIZE, QUAD_SIZE, WORD_SIZE}
+use Rattle.spu_word.specs.declared.limits.TheConstants.{DATA_START, MAX_OBJECTS, MAX_SECTION_SIZE, MAX_SYMBOLS, QUAD_SIZE, WORD_SIZE}
 use Rattle.spu_isa.specs.declared.operation.Kind.{Kind}
 use Rattle.spu_isa.specs.declared.operation.Kind.TheVariants as kind
 use Rattle.spu_isa.specs.declared.operation.Op.{Op}
@@ -107,7 +107,6 @@ AreInOrder from (part ∷ parts) end = (from ≤ part.address) × AreInOrder (pa
 
 pub record IsPart (p : Prog) (part : Part) : Type 0 where
   pub filled : (length part.bytes ≡ part.size) ⊎ (part.bytes ≡ [])
-  pub bytes : All (λ v. v < 256) part.bytes
   pub rising : (k : ℕ) (l m : WordLabel) → slice_get part.labels k ≡ Some l → slice_get part.labels (k + 1) ≡ Some m → l.offset < m.offset
   pub aligned : (l : WordLabel) → Contains part.labels l → l.offset % WORD_SIZE ≡ 0
   pub inside : (l : WordLabel) → Contains part.labels l → l.offset + WORD_SIZE ≤ part.size
@@ -152,6 +151,8 @@ pub record IsWellFormed (p : Prog) : Type 0 where
   pub functions : length p.functions ≤ MAX_FUNCTIONS
   pub sections : length p.code ≤ MAX_CODE_SECTIONS
   pub small : All (λ (c : CodeSection). c.size ≤ MAX_SECTION_SIZE) p.code
+  pub filled : All (λ (c : CodeSection). 1 ≤ c.size) p.code
+  pub few_globals : length p.globals ≤ MAX_OBJECTS * MAX_SYMBOLS
   -- functions: the start code is function 0, and the others lie in their sections, apart from each other
   pub start : slice_get p.functions 0 ≡ Some (start_code p.data_end p.entry)
   pub entry : IsCallee p p.entry
