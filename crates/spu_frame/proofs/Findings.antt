@@ -13,7 +13,8 @@ use Rattle.spu_frame.specs.declared.met.Met.TheVariants.{Never, Once, Twice}
 use Rattle.spu_frame.specs.Walks.{Reaches}
 use Rattle.spu_frame.specs.Frames.{IsExit, IsDepthAt, IsDepthInRange}
 use Rattle.spu_frame.specs.Faults.{HasTwoDepths, ExitsWithin, LeavesRange}
-use Rattle.spu_frame.specs.Surveys.{code_of, AreKnown, met_at, Keeps, IsTwice, Covers, met_behind, amount_in, behind_node, AreMet, AreSingle, IsLevel, IsInRange, IsDeep, IsMetInRange, IsDepthOf, KnowsWrites, AreDepthsIn, deeper}
+use Rattle.spu_frame.specs.Functions.{code_of}
+use Rattle.spu_frame.specs.Surveys.{AreKnown, met_at, Keeps, IsTwice, Covers, met_behind, amount_in, behind_node, AreMet, AreSingle, IsLevel, IsInRange, IsDeep, IsMetInRange, IsDepthOf, KnowsWrites, AreDepthsIn, deeper}
 use Rattle.spu_frame.specs.Found.{depth_in}
 use Rattle.spu_frame.proofs.Walks.{reaches_start}
 use Rattle.spu_frame.proofs.Formed.{place_at, place_within, code_some}

@@ -22,7 +22,8 @@ use Rattle.spu_lift.specs.Places.{place_in, instruction_at, taken_places, IsPlac
 use Rattle.spu_lift.specs.StartCode.{start_code}
 use Rattle.spu_lift.specs.WellFormed.{IsOperand, IsWellFormed}
 use Rattle.spu_frame.specs.Walks.{AddsImmediate, AddsRegister, IsKnownWrite}
-use Rattle.spu_frame.specs.Surveys.{code_in, code_of, IsWithin}
+use Rattle.spu_frame.specs.Functions.{code_in, code_of}
+use Rattle.spu_frame.specs.Surveys.{IsWithin}
 
 -- ---- places
 

@@ -9,7 +9,8 @@ use Rattle.spu_lift.specs.declared.program.Operand.TheVariants as operand
 use Rattle.spu_lift.specs.declared.program.SymInst.{SymInst}
 use Rattle.spu_lift.specs.declared.program.Prog.{Prog}
 use Rattle.spu_lift.specs.Places.{taken_places, IsTarget}
-use Rattle.spu_frame.specs.Surveys.{code_of, with_target, AreTargets}
+use Rattle.spu_frame.specs.Functions.{code_of}
+use Rattle.spu_frame.specs.Surveys.{with_target, AreTargets}
 use Rattle.spu_frame.proofs.Formed.{code_is, contains_at, contains_place}
 
 -- what is marked once the first n instructions and the first m taken places are

@@ -11,7 +11,8 @@ use Rattle.spu_lift.specs.declared.program.Prog.{Prog}
 use Rattle.spu_lift.specs.Places.{instruction_at, kind_of, Writes, IsTarget}
 use Rattle.spu_lift.specs.WellFormed.{IsWellFormed}
 use Rattle.spu_frame.specs.Walks.{leads_away, Holds, AddsImmediate, AddsRegister, IsKnownWrite}
-use Rattle.spu_frame.specs.Surveys.{code_of, AreTargets, IsLoaded, IsRegisterAddition, IsLoadAdded, IsScan}
+use Rattle.spu_frame.specs.Functions.{code_of}
+use Rattle.spu_frame.specs.Surveys.{AreTargets, IsLoaded, IsRegisterAddition, IsLoadAdded, IsScan}
 use Rattle.spu_frame.proofs.Walks.{same_instruction}
 use Rattle.spu_frame.proofs.Additions.{place_cases}
 use Rattle.spu_frame.proofs.Formed.{code_is, target_within}

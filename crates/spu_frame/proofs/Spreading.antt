@@ -11,7 +11,9 @@ use Rattle.spu_lift.specs.WellFormed.{IsWellFormed}
 use Rattle.spu_frame.specs.declared.met.Met.{Met}
 use Rattle.spu_frame.specs.declared.met.Met.TheVariants.{Never, Once, Twice}
 use Rattle.spu_frame.specs.Walks.{Follows, Adds, IsWalk, IsDepth, Reaches}
-use Rattle.spu_frame.specs.Surveys.{code_of, IsPointerBranch, AreKnown, met_at, Keeps, IsTwice, Covers, met_behind, amount_in, behind_node, room, Hands, IsWay, IsPointed, Comes, farthest, IsWithin, IsSpread, AreMet}
+use Rattle.spu_frame.specs.Functions.{code_of}
+use Rattle.spu_frame.specs.Walks.{IsPointerBranch}
+use Rattle.spu_frame.specs.Surveys.{AreKnown, met_at, Keeps, IsTwice, Covers, met_behind, amount_in, behind_node, room, Hands, IsWay, IsPointed, Comes, farthest, IsWithin, IsSpread, AreMet}
 use Rattle.spu_frame.proofs.Walks.{reaches_next, reaches_start, adds_none}
 use Rattle.spu_frame.proofs.Additions.{adds_one}
 use Rattle.spu_frame.proofs.Formed.{place_within, place_at, branch_within, taken_within, code_some, code_small, known_small}
@@ -122,7 +124,7 @@ module _ (p : Prog) (formed : IsWellFormed p) (f : ℕ) (inside : f < length p.f
       subst (Comes p f j) (sym (pointer_behind i q.x m q.here q.branch)) (inr (q.last, record { at = i; reached = come_place i m q.x q.here comes; x = q.x; here = q.here; branch = q.branch }))
   come_on i j m (inr (inr (e, taken))) comes =
       let q = come_last i m e comes in
-      let points : Follows p f q.at j = inr (inr (record { x = q.x; here = q.here; indirect = q.branch.0; other = q.branch.1; taken = taken })) in
+      let points : Follows p f q.at j = inr (inr (record { x = q.x; here = q.here; branch = q.branch; taken = taken })) in
       let place = place_at p f j (taken_within p formed f j taken) in
       let same : m +ℤ pos 0 ≡ m = omega (arith, ints) in
       subst (Comes p f j) (same ∙ sym (last_behind i m e)) (inl (reaches_next p f q.at j m (pos 0) q.reached points (pointer_adds q.at q.x q.here q.branch) place))
@@ -253,7 +255,7 @@ module _ (p : Prog) (formed : IsWellFormed p) (f : ℕ) (inside : f < length p.f
     cover_next i j m c n (inr (inl b)) adds e covers =
         subst (Covers (met_at met j)) (behind_adds i c m (place_within p f i b.x b.here) adds ∙ sym e) (cover_on i j m (inl (inr b)) covers)
     cover_next i j m c n (inr (inr q)) adds e covers =
-        let branch : IsPointerBranch q.x = (q.indirect, q.other) in
+        let branch : IsPointerBranch q.x = q.branch in
         let last = length (code_of p f) in
         let same : behind_of (amount i) m ≡ n = behind_adds i c m (place_within p f i q.x q.here) adds ∙ sym e in
         let there : Covers (met_at met last) n = subst (Covers (met_at met last)) same (cover_on i last m (inr (inl (record { x = q.x; here = q.here; branch = branch; last = refl }))) covers) in

@@ -12,7 +12,9 @@ use Rattle.spu_lift.specs.declared.program.Prog.{Prog}
 use Rattle.spu_lift.specs.Places.{instruction_at, taken_places}
 use Rattle.spu_frame.specs.declared.met.Met.{Met}
 use Rattle.spu_frame.specs.Walks.{GoesOn, Branches}
-use Rattle.spu_frame.specs.Surveys.{code_of, IsPointerBranch, met_at, met_behind, amount_in, behind_node, Hands, PointsAt, IsWay}
+use Rattle.spu_frame.specs.Functions.{code_of}
+use Rattle.spu_frame.specs.Walks.{IsPointerBranch}
+use Rattle.spu_frame.specs.Surveys.{met_at, met_behind, amount_in, behind_node, Hands, PointsAt, IsWay}
 use Rattle.spu_frame.proofs.Walks.{same_instruction}
 use Rattle.spu_frame.proofs.Formed.{place_within, taken_within, contains_at, contains_place}
 use Rattle.spu_frame.proofs.Handing.{no_hands, hands_then, hands_to}

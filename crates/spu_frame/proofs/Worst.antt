@@ -123,6 +123,22 @@ module _ (p : Prog) (n : ℕ) (flaw : Flaw) (fault : IsFaultIn p n flaw.kind fla
 
 -- ---- the end
 
+-- a place is one of a function of the program
+module _ (p : Prog) (n : ℕ) (all : n ≡ length p.functions) where
+  placed : (g i : ℕ) (x : SymInst) → instruction_at p g i ≡ Some x → g < n
+  placed g i x here = by_order (cases_lt g (length p.functions))
+    where
+      by_order : (g < length p.functions) ⊎ (length p.functions ≤ g) → g < n
+      by_order (inl lt) = omega (arith, lt, all)
+      by_order (inr le) = let none = ap (λ o. place_in o i) (get_past p.functions g le) in absurd (cc)
+
+  reached : (g i : ℕ) (m : ℤ) → Reaches p g i m → g < n
+  reached g i m r = let here = r.here in placed g i here.0 here.1
+
+  deep : (g i : ℕ) (m : ℤ) → IsDepthAt p g i m → g < n
+  deep g i m (inl r) = reached g i m r
+  deep g i m (inr (k, c, r, adds, e)) = reached g i k r
+
 pub worst_fault : (p : Prog) (n : ℕ) (flaw : Flaw) → n ≡ length p.functions → IsWorst p n flaw → IsFrameFault p flaw.kind flaw.function flaw.place
 worst_fault p n flaw all w = record {
   here = w.here;
@@ -130,50 +146,25 @@ worst_fault p n flaw all w = record {
   first = w.first;
 }
   where
-    placed : (g i : ℕ) (x : SymInst) → instruction_at p g i ≡ Some x → g < n
-    placed g i x here = by_order (cases_lt g (length p.functions))
-      where
-        by_order : (g < length p.functions) ⊎ (length p.functions ≤ g) → g < n
-        by_order (inl lt) = omega (arith, lt, all)
-        by_order (inr le) = let none = ap (λ o. place_in o i) (get_past p.functions g le) in absurd (cc)
-
-    reached : (g i : ℕ) (m : ℤ) → Reaches p g i m → g < n
-    reached g i m r = let here = r.here in placed g i here.0 here.1
-
     within : (kind : FrameKind) (g j : ℕ) → IsFaulty kind p g j → g < n
-    within StackWrite g j b = placed g j b.x b.here
-    within DepthDisagrees g j b = reached g j b.one b.first
-    within DepthAtExit g j b = reached g j b.depth b.reached
-    within DepthRange g j (m, inl r, out) = reached g j m r
-    within DepthRange g j (m, inr (k, c, r, adds, e), out) = reached g j k r
+    within StackWrite g j b = placed p n all g j b.x b.here
+    within DepthDisagrees g j b = reached p n all g j b.one b.first
+    within DepthAtExit g j b = reached p n all g j b.depth b.reached
+    within DepthRange g j (m, d, out) = deep p n all g j m d
 
 pub found_depths : (p : Prog) (n : ℕ) (d : Depths) → n ≡ length p.functions → AreFound p n d.functions None → AreDepths p (depth_at d) (frame_at d)
 found_depths p n d all (count, each) = record {
   good = record {
-    known = λ f i x ne here w. (good f (placed f i x here)).1.known i x ne here w;
-    agreed = λ f i a b r s. (good f (reached f i a r)).1.agreed i a b r s;
-    level = λ f i a x r here exit. (good f (reached f i a r)).1.level i a x r here exit;
-    range = λ f i a depth. (good f (deep f i a depth)).1.range i a depth;
+    known = λ f i x ne here w. (good f (placed p n all f i x here)).1.known i x ne here w;
+    agreed = λ f i a b r s. (good f (reached p n all f i a r)).1.agreed i a b r s;
+    level = λ f i a x r here exit. (good f (reached p n all f i a r)).1.level i a x r here exit;
+    range = λ f i a depth. (good f (deep p n all f i a depth)).1.range i a depth;
   };
   some = λ f i m e. by_some f i m (slice_get d.functions f) refl e;
-  none = λ f i a e r. by_none f i a (reached f i a r) e r;
+  none = λ f i a e r. by_none f i a (reached p n all f i a r) e r;
   greatest = λ f lt. by_frame f lt;
 }
   where
-    placed : (g i : ℕ) (x : SymInst) → instruction_at p g i ≡ Some x → g < n
-    placed g i x here = by_order (cases_lt g (length p.functions))
-      where
-        by_order : (g < length p.functions) ⊎ (length p.functions ≤ g) → g < n
-        by_order (inl lt) = omega (arith, lt, all)
-        by_order (inr le) = let none = ap (λ o. place_in o i) (get_past p.functions g le) in absurd (cc)
-
-    reached : (g i : ℕ) (m : ℤ) → Reaches p g i m → g < n
-    reached g i m r = let here = r.here in placed g i here.0 here.1
-
-    deep : (g i : ℕ) (m : ℤ) → IsDepthAt p g i m → g < n
-    deep g i m (inl r) = reached g i m r
-    deep g i m (inr (k, c, r, adds, e)) = reached g i k r
-
     at : (f : ℕ) → f < n → (e : FunctionDepths) × (slice_get d.functions f ≡ Some e)
     at f lt = get_some d.functions f (omega (arith, lt, count))
 

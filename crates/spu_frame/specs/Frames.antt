@@ -7,14 +7,15 @@ use Rattle.spu_lift.specs.declared.program.Operand.TheVariants as operand
 use Rattle.spu_lift.specs.declared.program.SymInst.{SymInst}
 use Rattle.spu_lift.specs.declared.program.Prog.{Prog}
 use Rattle.spu_lift.specs.Places.{instruction_at, taken_places, kind_of, link_register, stack_pointer, Writes}
-use Rattle.spu_frame.specs.Walks.{IsKnownWrite, Adds, Reaches}
+use Rattle.spu_frame.specs.Walks.{IsPointerBranch, IsKnownWrite, Adds, Reaches}
 
--- a return; a jump to another function; an indirect branch on another register in a function without taken places
+-- a return; a jump by a pointer: an indirect branch on another register in a function without taken places; either of these, or a jump
+-- to another function
 abbrev pub IsReturn : SymInst → Type 0
 IsReturn x = (kind_of x ≡ kind.Indirect) × (x.inst.ra ≡ link_register)
 
 abbrev pub IsPointerJump : Prog → ℕ → SymInst → Type 0
-IsPointerJump p f x = (kind_of x ≡ kind.Indirect) × (x.inst.ra ≢ link_register) × (taken_places p f ≡ [])
+IsPointerJump p f x = IsPointerBranch x × (taken_places p f ≡ [])
 
 abbrev pub IsExit : Prog → ℕ → SymInst → Type 0
 IsExit p f x = IsReturn x ⊎ (((g : ℕ) × (x.operand ≡ operand.Jump g)) ⊎ IsPointerJump p f x)

@@ -5,4 +5,4 @@ pub mod Found
 pub mod Surveys
 pub mod Spreads
 pub mod Flaws
-pub mod Targets
+pub mod Functions

@@ -4,11 +4,9 @@ use Rattle.std.specs.List.{Contains}
 use Rattle.spu_word.specs.declared.limits.TheConstants.{REGISTER_COUNT}
 use Rattle.spu_word.specs.Lists.{stands_on}
 use Rattle.spu_isa.specs.declared.operation.Op.TheVariants as op
-use Rattle.spu_isa.specs.declared.operation.Kind.TheVariants as kind
 use Rattle.spu_lift.specs.declared.program.Operand.{Operand}
 use Rattle.spu_lift.specs.declared.program.Operand.TheVariants as operand
 use Rattle.spu_lift.specs.declared.program.SymInst.{SymInst}
-use Rattle.spu_lift.specs.declared.program.Function.{Function}
 use Rattle.spu_lift.specs.declared.program.Prog.{Prog}
 use Rattle.spu_lift.specs.Places.{instruction_at, taken_places, kind_of, link_register, stack_pointer, Writes, IsTarget}
 use Rattle.spu_frame.specs.declared.faults.FrameKind.{FrameKind}
@@ -17,22 +15,11 @@ use Rattle.spu_frame.specs.declared.met.Met.TheVariants.{Never, Once, Twice}
 use Rattle.spu_frame.specs.declared.survey.FunctionDepths.{FunctionDepths}
 use Rattle.spu_frame.specs.declared.survey.Finding.{Finding}
 use Rattle.spu_frame.specs.declared.survey.Finding.TheVariants.{Good, Faulty}
-use Rattle.spu_frame.specs.Walks.{GoesOn, Branches, IsOf16, leads_away, Holds, IsKnownWrite, Reaches}
+use Rattle.spu_frame.specs.Functions.{code_of}
+use Rattle.spu_frame.specs.Walks.{GoesOn, Branches, IsPointerBranch, IsOf16, leads_away, Holds, IsKnownWrite, Reaches}
 use Rattle.spu_frame.specs.Frames.{IsExit, IsDepthAt, IsDepthInRange, IsFrame}
 use Rattle.spu_frame.specs.Faults.{IsFaulty, number_of}
 use Rattle.spu_frame.specs.Found.{depth_in}
-
--- the instructions of a function
-abbrev pub code_in : Option Function → List SymInst
-code_in None = []
-code_in (Some g) = g.code
-
-abbrev pub code_of : Prog → ℕ → List SymInst
-code_of p f = code_in (slice_get p.functions f)
-
--- an indirect branch on another register than the link
-abbrev pub IsPointerBranch : SymInst → Type 0
-IsPointerBranch x = (kind_of x ≡ kind.Indirect) × (x.inst.ra ≢ link_register)
 
 -- ---- known writes
 

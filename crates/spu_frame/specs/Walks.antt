@@ -48,12 +48,15 @@ pub record Branches (p : Prog) (f i j : ℕ) : Type 0 where
   pub here : instruction_at p f i ≡ Some x
   pub to : x.operand ≡ operand.Branch j
 
--- from an indirect branch on another register than the link to each taken place
+-- an indirect branch on another register than the link
+abbrev pub IsPointerBranch : SymInst → Type 0
+IsPointerBranch x = (kind_of x ≡ kind.Indirect) × (x.inst.ra ≢ link_register)
+
+-- from such a branch to each taken place
 pub record Points (p : Prog) (f i j : ℕ) : Type 0 where
   pub x : SymInst
   pub here : instruction_at p f i ≡ Some x
-  pub indirect : kind_of x ≡ kind.Indirect
-  pub other : x.inst.ra ≢ link_register
+  pub branch : IsPointerBranch x
   pub taken : Contains (taken_places p f) j
 
 -- place j is a successor of place i

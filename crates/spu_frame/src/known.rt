@@ -5,7 +5,8 @@ ghost use Rattle.spu_lift.specs.declared.program.Operand.TheVariants as operand;
 ghost use Rattle.spu_lift.specs.Places.{kind_of, Writes};
 ghost use Rattle.spu_lift.specs.WellFormed.{IsWellFormed};
 ghost use Rattle.spu_frame.specs.Walks.{IsOf16, AddsImmediate, IsKnownWrite, leads_away};
-ghost use Rattle.spu_frame.specs.Surveys.{code_of, AreTargets, IsPlainNumber, IsLoaded, IsRegisterAddition, IsLoadAdded, IsScan, AreKnown, with_target};
+ghost use Rattle.spu_frame.specs.Functions.{code_of};
+ghost use Rattle.spu_frame.specs.Surveys.{AreTargets, IsPlainNumber, IsLoaded, IsRegisterAddition, IsLoadAdded, IsScan, AreKnown, with_target};
 
 use crate::places::{
     LINK_REGISTER, STACK_POINTER, code_of, instruction, leads_away, taken_of, writes,
@@ -15,21 +16,6 @@ use spu_lift::{Operand, Prog, SymInst};
 use spu_word::OutOfMemory;
 use spu_word::limits::REGISTER_COUNT;
 use std::alloc::Global;
-
-/// A value, that many times.
-pub fn repeated<T: Copy + Drop>(
-    alloc: Global,
-    value: T,
-    count: usize,
-) -> Result<Vec<T>, OutOfMemory>
-    ensures { IfOk result (λ v. v.items ≡ replicate count value) }
-{
-    let mut all = Vec::new(alloc);
-    for _ in 0..count {
-        all.push(value)?;
-    }
-    Ok(all)
-}
 
 /// Marks the target of a branch.
 fn mark_target(marks: &mut Vec<bool>, x: &SymInst)
@@ -48,7 +34,7 @@ fn targets(alloc: Global, p: &Prog, f: u32) -> Result<Vec<bool>, OutOfMemory>
     ensures { IfOk result (λ marks. AreTargets p.now f marks.items) }
 {
     let code = code_of(p, f);
-    let mut marks = repeated(alloc, false, code.len())?;
+    let mut marks = vec![in alloc; false; code.len()]?;
     for x in code {
         mark_target(&mut marks, x);
     }
@@ -200,7 +186,7 @@ pub fn known_writes(alloc: Global, p: &Prog, f: u32) -> Result<Vec<Option<i32>>,
     ensures { IfOk result (λ known. AreKnown p.now f known.items) }
 {
     let targets = targets(alloc, p, f)?;
-    let mut writers = repeated(alloc, None, REGISTER_COUNT as usize)?;
+    let mut writers = vec![in alloc; None; REGISTER_COUNT as usize]?;
     let mut straight = 0;
     let mut known = Vec::new(alloc);
     for i in 0..code_of(p, f).len() {

@@ -4,8 +4,9 @@ ghost use Rattle.std.specs.Prelude.{◌≡◌, ◌<◌, ◌⊎◌, ℕ, [], ◌=
 ghost use Rattle.spu_lift.specs.Places.{instruction_at, taken_places, kind_of, Writes};
 ghost use Rattle.spu_frame.specs.Walks.{is_conditional, goes_on, leads_away};
 ghost use Rattle.spu_frame.specs.Frames.{IsReturn, IsExit};
-ghost use Rattle.spu_frame.specs.Surveys.{code_of, IsPointerBranch};
-ghost use Rattle.spu_frame.specs.Targets.{branch_target};
+ghost use Rattle.spu_frame.specs.Functions.{code_of};
+ghost use Rattle.spu_frame.specs.Walks.{IsPointerBranch};
+ghost use Rattle.spu_frame.specs.Functions.{branch_target};
 ghost use Rattle.spu_lift.specs.declared.program.Operand.TheVariants as operand;
 
 use spu_isa::{Kind, Op, info};

@@ -6,10 +6,10 @@ ghost use Rattle.spu_lift.specs.Places.{taken_places};
 ghost use Rattle.std.specs.List.{Contains};
 ghost use Rattle.spu_lift.specs.WellFormed.{IsWellFormed};
 ghost use Rattle.spu_frame.specs.Walks.{GoesOn, Branches};
-ghost use Rattle.spu_frame.specs.Surveys.{code_of, AreKnown, AreMet};
+ghost use Rattle.spu_frame.specs.Functions.{code_of};
+ghost use Rattle.spu_frame.specs.Surveys.{AreKnown, AreMet};
 ghost use Rattle.spu_word.specs.Chains.{lists_of, slot_count, list_count};
 
-use crate::known::repeated;
 use crate::met::{Met, amount, behind, met_at};
 use crate::places::{code_of, goes_on, instruction, is_pointer_branch, taken_of, target};
 use spu_lift::Prog;
@@ -58,7 +58,7 @@ impl Spreading {
             waiting.add_slot()?;
         }
         Ok(Spreading {
-            met: repeated(alloc, Met::Never, nodes)?,
+            met: vec![in alloc; Met::Never; nodes]?,
             waiting,
         })
     }

@@ -3,7 +3,8 @@
 ghost use Rattle.std.specs.Prelude.{◌≡◌, ◌^◌, ◌<◌, ◌⊎◌, ◌↔◌, ℤ, true, false, Some, None, length, slice_get, IsTrue, IfOk, IfSome, IfNone};
 ghost use Rattle.spu_lift.specs.WellFormed.{IsWellFormed};
 ghost use Rattle.spu_frame.specs.Faults.{WritesOtherwise, HasTwoDepths, ExitsWithin, LeavesRange};
-ghost use Rattle.spu_frame.specs.Surveys.{code_of, AreKnown, AreMet, AreSingle, AreDepthsIn, IsFinding, IsFirst, IsTwice, IsDeep, IsMetInRange, IsDepthOf, KnowsWrites, IsLevel, IsInRange, deeper, Keeps, IsWithin, met_at, behind_node};
+ghost use Rattle.spu_frame.specs.Functions.{code_of};
+ghost use Rattle.spu_frame.specs.Surveys.{AreKnown, AreMet, AreSingle, AreDepthsIn, IsFinding, IsFirst, IsTwice, IsDeep, IsMetInRange, IsDepthOf, KnowsWrites, IsLevel, IsInRange, deeper, Keeps, IsWithin, met_at, behind_node};
 
 use crate::faults::FrameKind;
 use crate::known::known_writes;

@@ -31,7 +31,7 @@ replicate_some zero i v e = cc
 replicate_some (suc n) zero v e = cc
 replicate_some (suc n) (suc i) v e = replicate_some n i v e
 
-pub starts : (frames : List ℕ) (edges : List Edge) (n : ℕ) → n ≡ length frames → IsPeeling frames edges (replicate n None) (replicate n None) [] 0 None 0 0 []
+starts : (frames : List ℕ) (edges : List Edge) (n : ℕ) → n ≡ length frames → IsPeeling frames edges (replicate n None) (replicate n None) [] 0 None 0 0 []
 starts frames edges n same = record {
   needs_all = length-replicate n None ∙ same;
   waits_all = length-replicate n None ∙ same;
@@ -45,6 +45,13 @@ starts frames edges n same = record {
   waiting = λ f lt but none. absurd (omega (arith, lt));
   told_within = omega arith;
 }
+
+pub starts_with : (frames : List ℕ) (edges : List Edge) (n : ℕ) → n ≡ length frames → (needs waits : List (Option ℕ)) (order : List ℕ) → needs ≡ replicate n None → waits ≡ replicate n None → order ≡ []
+    → IsPeeling frames edges needs waits order 0 None 0 0 []
+starts_with frames edges n same needs waits order no_needs no_waits no_order =
+    subst (λ z. IsPeeling frames edges z waits order 0 None 0 0 []) (sym no_needs)
+    (subst (λ z. IsPeeling frames edges (replicate n None) z order 0 None 0 0 []) (sym no_waits)
+    (subst (λ (z : List ℕ). IsPeeling frames edges (replicate n None) (replicate n None) z 0 None 0 0 []) (sym no_order) (starts frames edges n same)))
 
 module _ (frames : List ℕ) (edges : List Edge) (needs waits : List (Option ℕ)) (order : List ℕ) where
   -- the order has no more functions than there are

@@ -157,28 +157,13 @@ fn take_turn(
     Ok(())
 }
 
-/// A value, that many times.
-pub(crate) fn repeated<T: Copy + Drop>(
-    alloc: Global,
-    value: T,
-    count: u32,
-) -> Result<Vec<T>, OutOfMemory>
-    ensures { IfOk result (λ v. v.items ≡ replicate count value) }
-{
-    let mut all = Vec::new(alloc);
-    for _ in 0..count {
-        all.push(value)?;
-    }
-    Ok(all)
-}
-
 /// The needs of the functions from which no path is recursive. Each other one has an edge to one of the others.
 pub fn peel(graph: &Graph, alloc: Global) -> Result<Vec<Option<u64>>, OutOfMemory>
     ensures { IfOk result (λ needs. IsPeeled (frames_of graph.now) (edges_of graph.now) needs.items) }
 {
     let count = graph.count();
-    let mut needs = repeated(alloc, None, count)?;
-    let mut waits = repeated(alloc, None, count)?;
+    let mut needs = vec![in alloc; None; count as usize]?;
+    let mut waits = vec![in alloc; None; count as usize]?;
     let mut order = Vec::new(alloc);
     for f in 0..count {
         let from = graph.first_call(f);

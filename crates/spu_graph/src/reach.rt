@@ -7,7 +7,6 @@ ghost use Rattle.spu_graph.specs.Graphs.{frames_of, edges_of};
 ghost use Rattle.spu_graph.specs.Reaching.{IsReaching, IsVisited, AreReached};
 
 use crate::graph::Graph;
-use crate::peel::repeated;
 use spu_word::OutOfMemory;
 use std::alloc::Global;
 
@@ -72,7 +71,7 @@ pub fn reach(graph: &Graph, alloc: Global, entry: u32) -> Result<Vec<bool>, OutO
     ensures { IfOk result (λ marks. AreReached (length (frames_of graph.now)) (edges_of graph.now) entry marks.items) }
 {
     let count = graph.count();
-    let mut marks = repeated(alloc, false, count)?;
+    let mut marks = vec![in alloc; false; count as usize]?;
     let mut order = Vec::new(alloc);
     visit(&mut marks, &mut order, entry)?;
     for i in 0..count as usize {

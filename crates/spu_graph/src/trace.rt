@@ -7,7 +7,7 @@ ghost use Rattle.spu_graph.specs.Peeling.{IsPeeled};
 ghost use Rattle.spu_graph.specs.Cycles.{Leads, IsCycle};
 
 use crate::graph::Graph;
-use crate::peel::{repeated, waiting};
+use crate::peel::waiting;
 use spu_word::{OutOfMemory, Seq};
 use std::alloc::Global;
 
@@ -26,7 +26,7 @@ impl Trace {
     {
         Ok(Trace {
             path: Vec::new(alloc),
-            indices: repeated(alloc, None, count)?,
+            indices: vec![in alloc; None; count as usize]?,
         })
     }
 

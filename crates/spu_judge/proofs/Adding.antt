@@ -16,7 +16,7 @@ use Rattle.spu_frame.specs.Frames.{IsDepthInRange, AreDepths}
 use Rattle.spu_frame.specs.declared.depths.Depths.{Depths}
 use Rattle.spu_frame.specs.declared.survey.FunctionDepths.{FunctionDepths}
 use Rattle.spu_frame.specs.Found.{frame_within, frame_at, function_count}
-use Rattle.spu_frame.specs.Surveys.{code_of}
+use Rattle.spu_frame.specs.Functions.{code_of}
 use Rattle.spu_frame.proofs.Formed.{place_within, contains_place, contains_at}
 use Rattle.spu_graph.specs.declared.graph.Edge.{Edge}
 use Rattle.spu_judge.specs.Building.{pointer_node, edge_between, edge_of, IsOut, IsIn, IsMade, IsEdgeOf, listed, AreMore, jumps_to}

@@ -13,6 +13,7 @@ use Rattle.spu_lift.specs.declared.program.Function.{Function}
 use Rattle.spu_lift.specs.declared.program.Prog.{Prog}
 use Rattle.spu_lift.specs.Places.{place_in, instruction_at, taken_places, kind_of, link_register}
 use Rattle.spu_lift.specs.WellFormed.{IsOperand, IsWellFormed}
+use Rattle.spu_frame.specs.Frames.{IsPointerJump}
 use Rattle.spu_graph.specs.declared.graph.Edge.{Edge}
 use Rattle.spu_judge.specs.Edges.{Leads}
 use Rattle.spu_judge.specs.Building.{pointer_node, edge_between, call_edge, jump_edge, pointer_edge, edge_by, edge_of}
@@ -29,7 +30,7 @@ some_edge d e h = cc
 
 -- an instruction of f calls or jumps by a pointer
 abbrev pub Points : Prog → ℕ → SymInst → Bool → Type 0
-Points p f x call = ((call ≡ true) × (kind_of x ≡ kind.PointerCall)) ⊎ ((call ≡ false) × (kind_of x ≡ kind.Indirect) × (x.inst.ra ≡ 0 → ⊥) × (taken_places p f ≡ []))
+Points p f x call = ((call ≡ true) × (kind_of x ≡ kind.PointerCall)) ⊎ ((call ≡ false) × IsPointerJump p f x)
 
 -- ---- from the edge that is made to the program's
 
@@ -59,7 +60,7 @@ module _ (p : Prog) (f : ℕ) (x : SymInst) (e : Edge) where
     where
       by_register : (b : Bool) → (x.inst.ra == link_register) ≡ b → (if b then None else Some (edge_between f (pointer_node p) false)) ≡ Some e → LeadsOut p f x e
       by_register true t h = absurd (cc)
-      by_register false t h = subst (LeadsOut p f x) (some_edge (edge_between f (pointer_node p) false) e h) (refl, inr (refl, inr (refl, k, other, is)))
+      by_register false t h = subst (LeadsOut p f x) (some_edge (edge_between f (pointer_node p) false) e h) (refl, inr (refl, inr (refl, ((k, other), is))))
         where
           other : x.inst.ra ≡ 0 → ⊥
           other z = let yes : (0 == link_register) ≡ false = subst (λ n. (n == link_register) ≡ false) z t in cc
@@ -94,7 +95,7 @@ module _ (p : Prog) (formed : IsWellFormed p) (f i : ℕ) (x : SymInst) (here : 
   led (inl (call, inl (k, is))) = inl (ap (λ k. edge_by k p f x) k ∙ ap (call_edge f) is ∙ ap Some (same_edge e f true from call))
   led (inl (call, inr (k, taken))) = inr (ap (λ k. edge_by k p f x) k ∙ ap (λ b. Some (edge_between f (pointer_node p) b)) (sym call), taken)
   led (inr (jump, inl is)) = inl (ap (λ k. edge_by k p f x) (jump_branch e.to is) ∙ ap (jump_edge f) is ∙ ap Some (same_edge e f false from jump))
-  led (inr (jump, inr (k, other, none, taken))) =
+  led (inr (jump, inr (((k, other), none), taken))) =
       let none_here : taken_places p f ≡ [] = ap (taken_places p) (sym from) ∙ none in
       let register = register_other other in
       inr (

@@ -4,4 +4,3 @@ pub mod Pointing
 pub mod Needs
 pub mod Cycles
 pub mod Promised
-pub mod SampleFormed

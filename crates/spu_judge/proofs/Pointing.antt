@@ -37,7 +37,7 @@ module _ (p : Prog) (formed : IsWellFormed p) where
     where
       by_points : Points p h q.x call → Leads p q.x (edge_between h g call)
       by_points (inl (c, k)) = inl (c, inr (k, taken))
-      by_points (inr (c, k, other, none)) = inr (c, inr (k, other, none, taken))
+      by_points (inr (c, jump)) = inr (c, inr (jump, taken))
 
   pub edge_below : (e : Edge) → IsEdge p e → e.to < node
   edge_below e edge = by_leads edge.leads
@@ -49,7 +49,7 @@ module _ (p : Prog) (formed : IsWellFormed p) where
       by_leads (inl (c, inl (k, is))) = (let callee : IsOperand p e.from edge.x (operand.Call e.to) = stands (operand.Call e.to) is in callee.1.1)
       by_leads (inl (c, inr (k, taken))) = taken_below e.to taken
       by_leads (inr (c, inl is)) = (let callee : IsOperand p e.from edge.x (operand.Jump e.to) = stands (operand.Jump e.to) is in callee.1.1)
-      by_leads (inr (c, inr (k, other, none, taken))) = taken_below e.to taken
+      by_leads (inr (c, inr (jump, taken))) = taken_below e.to taken
 
   -- from a function
   pub made_edge : (e : Edge) → IsMade p e → (e.from ≡ node → ⊥) → IsEdge p e ⊎ ((e.to ≡ node) × IsPointing p e.from e.call)

@@ -3,24 +3,20 @@
 ghost use Rattle.std.specs.Prelude.{◌≡◌, ◌^◌, ◌+◌, ◌<◌, ◌≤◌, ◌↔◌, ℕ, List, [], ◌∷◌, ◌++◌, length, IsTrue, IfOk, IfSome, OnOk, Some, slice_index};
 ghost use Rattle.std.specs.List.{Contains, All};
 ghost use Rattle.spu_word.specs.declared.limits.TheConstants.{MAX_STACK_LIMIT};
-ghost use Rattle.spu_lift.specs.Places.{instruction_at, kind_of, taken_places};
 ghost use Rattle.spu_lift.specs.WellFormed.{IsWellFormed};
 ghost use Rattle.spu_frame.specs.Frames.{AreDepths};
 ghost use Rattle.spu_frame.specs.Found.{depth_at, frame_at, function_count};
-ghost use Rattle.spu_frame.specs.Surveys.{code_of};
+ghost use Rattle.spu_frame.specs.Functions.{code_of};
 ghost use Rattle.spu_graph.specs.declared.graph.Edge.{Edge};
 ghost use Rattle.spu_graph.specs.Graphs.{frames_of, edges_of};
 ghost use Rattle.spu_judge.specs.Building.{pointer_node, call_edge, jump_edge, pointer_edge, edge_of, IsOut, IsMade, AreMore, IsEdgeOf, listed, jumps_to};
 
-use spu_frame::Depths;
+use spu_frame::{Depths, LINK_REGISTER, code_of, instruction, taken_of};
 use spu_graph::{Edge, Graph};
 use spu_isa::{Kind, info};
 use spu_lift::{Operand, Prog, SymInst};
 use spu_word::{OutOfMemory, Seq};
 use std::alloc::Global;
-
-/// The register that holds the link.
-const LINK_REGISTER: u8 = 0;
 
 /// The node through which pointers lead: one behind the functions.
 pub fn pointer_node(p: &Prog) -> u32
@@ -28,31 +24,6 @@ pub fn pointer_node(p: &Prog) -> u32
     ensures { result ≡ pointer_node p.now }
 {
     p.functions.len() as u32
-}
-
-/// The instructions of a function.
-fn code_of(p: &Prog, f: u32) -> &[SymInst]
-    requires { f < length p.now.functions }
-    ensures { result.now ≡ code_of p.now f }
-{
-    p.functions.as_slice()[f as usize].code.as_slice()
-}
-
-/// The instruction at place i of a function.
-fn instruction(p: &Prog, f: u32, i: usize) -> &SymInst
-    requires f { f < length p.now.functions }
-    requires i { i < length (code_of p.now f) }
-    ensures { instruction_at p.now f i ≡ Some result.now }
-{
-    &code_of(p, f)[i]
-}
-
-/// The places of a function whose addresses are taken.
-fn taken_of(p: &Prog, f: u32) -> &[u32]
-    requires { f < length p.now.functions }
-    ensures { result.now ≡ taken_places p.now f }
-{
-    p.functions.as_slice()[f as usize].taken.as_slice()
 }
 
 /// The edge of a call that names its function.

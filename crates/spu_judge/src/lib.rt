@@ -5,8 +5,6 @@
 mod building;
 mod judging;
 mod outcome;
-#[cfg(test)]
-mod samples;
 mod telling;
 #[cfg(test)]
 mod tests;

@@ -1,10 +1,10 @@
 //! Tests of judgements, on small programs.
 
-use crate::samples::{Step, Taken, name_at, program};
 use crate::{JudgeFault, Judged, judge_program};
 use spu_elf::is_same;
 use spu_frame::{FrameKind, frames};
 use spu_isa::Op;
+use spu_samples::{CALLER, LEAF, MIDDLE, NONE, Step, Taken, name_at, program};
 use spu_word::Bytes;
 use spu_word::limits::MAX_STACK_LIMIT;
 use std::alloc::Global;
@@ -69,28 +69,22 @@ fn told(alloc: Global, bodies: &[&[Step]], taken: Taken, limit: u32) -> Result<V
 }
 
 /// Functions, what is taken of them, the stack that there is, and what is told of them.
-type Row = (&'static [&'static [Step]], Taken, u32, Verdict);
-
-/// Nothing is taken.
-const NONE: Taken = Taken {
-    functions: &[],
-    places: &[],
-};
+type Row = (&'static [&'static [Step]], Taken<'static>, u32, Verdict);
 
 /// The address of `main` is taken.
-const MAIN: Taken = Taken {
+const MAIN: Taken<'static> = Taken {
     functions: &[1],
     places: &[],
 };
 
 /// The address of `a` is taken.
-const A: Taken = Taken {
+const A: Taken<'static> = Taken {
     functions: &[2],
     places: &[],
 };
 
 /// The addresses of `a` and `b` are taken.
-const A_AND_B: Taken = Taken {
+const A_AND_B: Taken<'static> = Taken {
     functions: &[2, 3],
     places: &[],
 };
@@ -98,8 +92,8 @@ const A_AND_B: Taken = Taken {
 /// A greater stack than the samples need.
 const AMPLE: u32 = 16384;
 
-/// A frame of 32 bytes, calls of the second and the third function and of the fourth.
-const CALLER: &[Step] = &[
+/// A frame of 32 bytes, and calls of all others.
+const CALLER_OF_ALL: &[Step] = &[
     Step::Add(1, -32),
     Step::Call(2),
     Step::Call(3),
@@ -108,34 +102,30 @@ const CALLER: &[Step] = &[
     Step::Return,
 ];
 
-/// A frame of 48 bytes, and a call of the third function.
-const MIDDLE: &[Step] = &[
-    Step::Add(1, -48),
-    Step::Call(3),
-    Step::Add(1, 48),
-    Step::Return,
-];
-
-/// A frame of 16 bytes.
-const LAST: &[Step] = &[Step::Add(1, -16), Step::Add(1, 16), Step::Return];
-
-const ROWS: [Row; 50] = [
+const ROWS: [Row; 51] = [
     // three functions below one: the greatest path, not the sum
     (
-        &[CALLER, MIDDLE, LAST, LAST],
+        &[CALLER_OF_ALL, MIDDLE, LEAF, LEAF],
         NONE,
         96,
         Verdict::Needs([Some(96), Some(64), Some(16), Some(16)]),
     ),
+    // two, with all the stack that they need, and with less
     (
-        &[CALLER, MIDDLE, LAST, LAST],
+        &[CALLER, MIDDLE, LEAF],
+        NONE,
+        96,
+        Verdict::Needs([Some(96), Some(64), Some(16), None]),
+    ),
+    (
+        &[CALLER, MIDDLE, LEAF],
         NONE,
         80,
         Verdict::StackLimit(96, 80),
     ),
     // a jump keeps no frame
     (
-        &[&[Step::Jump(2)], LAST],
+        &[&[Step::Jump(2)], LEAF],
         NONE,
         16,
         Verdict::Needs([Some(16), Some(16), None, None]),
@@ -310,7 +300,7 @@ const ROWS: [Row; 50] = [
     ),
     // at a jump
     (
-        &[&[Step::Jump(2), Step::Add(1, -16), Step::Return], LAST],
+        &[&[Step::Jump(2), Step::Add(1, -16), Step::Return], LEAF],
         NONE,
         AMPLE,
         Verdict::Needs([Some(16), Some(16), None, None]),
@@ -394,7 +384,7 @@ const ROWS: [Row; 50] = [
                 Step::Add(1, 32),
                 Step::Return,
             ],
-            LAST,
+            LEAF,
         ],
         NONE,
         AMPLE,
@@ -499,7 +489,7 @@ const ROWS: [Row; 50] = [
     ),
     // a jump, a return with a test and a branch by a pointer with a test, within a frame
     (
-        &[&[Step::Add(1, -16), Step::Jump(2)], LAST],
+        &[&[Step::Add(1, -16), Step::Jump(2)], LEAF],
         NONE,
         AMPLE,
         Verdict::Frame(FrameKind::DepthAtExit, 1, 4),
@@ -593,7 +583,7 @@ const ROWS: [Row; 50] = [
                 Step::Add(1, 32),
                 Step::Return,
             ],
-            LAST,
+            LEAF,
             &[Step::Add(1, -48), Step::Add(1, 48), Step::Return],
         ],
         A_AND_B,
@@ -603,7 +593,7 @@ const ROWS: [Row; 50] = [
     (
         &[
             &[Step::Add(1, -32), Step::Add(1, 32), Step::JumpPointer],
-            LAST,
+            LEAF,
             &[Step::Add(1, -48), Step::Add(1, 48), Step::Return],
         ],
         A_AND_B,
@@ -612,7 +602,7 @@ const ROWS: [Row; 50] = [
     ),
     // a branch by a pointer stays within a function with taken places
     (
-        &[&[Step::JumpPointer, Step::Return], LAST],
+        &[&[Step::JumpPointer, Step::Return], LEAF],
         Taken {
             functions: &[2],
             places: &[1],
@@ -622,7 +612,7 @@ const ROWS: [Row; 50] = [
     ),
     // a call that no walk reaches isn't made
     (
-        &[&[Step::Return, Step::Call(1), Step::Call(2)], LAST],
+        &[&[Step::Return, Step::Call(1), Step::Call(2)], LEAF],
         NONE,
         AMPLE,
         Verdict::Needs([Some(0), None, None, None]),
@@ -636,7 +626,7 @@ const ROWS: [Row; 50] = [
             &[Step::Call(5), Step::Return],
             &[Step::Call(6), Step::Return],
             &[Step::Call(7), Step::Return],
-            LAST,
+            LEAF,
         ],
         NONE,
         AMPLE,

@@ -1,14 +1,17 @@
-use Rattle.std.proofs.Common.{ℕ, List, Option, sym, subst, arith}
+use Rattle.std.proofs.Common.{◌≡◌, ℕ, List, Option, None, replicate, sym, subst, arith, rules}
+use Rattle.spu_word.specs.declared.limits.TheConstants.{REGISTER_COUNT}
 use Rattle.spu_frame.specs.Surveys.{IsScan}
 use Rattle.spu_frame.proofs.Formed.{rt_small}
 use Rattle.spu_frame.proofs.Scans.{scan_starts, scan_next, known_starts, known_more}
 use Rattle.spu_frame.proofs.known.known_writes.Goals as goal
 
 pub loop-i-init : goal.loop-i-init
-loop-i-init c = record {
-  scan = subst (λ (ws : List (Option ℕ)). IsScan c.args.p.now c.args.f ws 0 0) (sym c.in_ok-writers.ensures) (scan_starts c.args.p.now c.args.f);
-  known = known_starts c.args.p.now c.args.f _ c.new-known.ensures.items;
-}
+loop-i-init c =
+    let none : c.in_ok-writers.writers.items ≡ replicate REGISTER_COUNT None = c.in_ok-writers.ensures.items_if_clones_equal (λ y h. search rules) in
+    record {
+      scan = subst (λ (ws : List (Option ℕ)). IsScan c.args.p.now c.args.f ws 0 0) (sym none) (scan_starts c.args.p.now c.args.f);
+      known = known_starts c.args.p.now c.args.f _ c.new-known.ensures.items;
+    }
 
 pub note-requires : goal.note-requires
 note-requires c =

@@ -4,17 +4,14 @@ use Rattle.std.proofs.lemmas.Option.{slice_get-get_or}
 use Rattle.spu_lift.specs.declared.program.SymInst.{SymInst}
 use Rattle.spu_lift.specs.declared.program.Prog.{Prog}
 use Rattle.spu_lift.specs.Places.{instruction_at, taken_places}
-use Rattle.spu_lift.specs.WellFormed.{IsWellFormed}
-use Rattle.spu_frame.specs.Surveys.{code_of}
-use Rattle.spu_frame.proofs.Formed.{code_is, branch_within, taken_within, contains_at}
+use Rattle.spu_frame.specs.Functions.{code_of}
+use Rattle.spu_frame.proofs.Formed.{code_is, branch_within}
+use Rattle.spu_frame.proofs.Ways.{taken_at, taken_in}
 use Rattle.spu_frame.proofs.Marks.{AreMarks, mark_branch, mark_taken, marks_all}
 use Rattle.spu_frame.proofs.known.targets.Goals as goal
 
 instruction_in : (p : Prog) (f : ℕ) (code : List SymInst) (i : ℕ) (d : SymInst) → code ≡ code_of p f → i < length code → instruction_at p f i ≡ Some (get_or code i d)
 instruction_in p f code i d e lt = code_is p f i ∙ ap (λ (cs : List SymInst). slice_get cs i) (sym e) ∙ slice_get-get_or code i d lt
-
-taken_in_code : (p : Prog) → IsWellFormed p → (f : ℕ) (taken : List ℕ) (i d : ℕ) → taken ≡ taken_places p f → i < length taken → get_or taken i d < length (code_of p f)
-taken_in_code p formed f taken i d e lt = taken_within p formed f (get_or taken i d) (contains_at (taken_places p f) i (get_or taken i d) (ap (λ (xs : List ℕ). slice_get xs i) (sym e) ∙ slice_get-get_or taken i d lt))
 
 pub mark_target-requires : goal.mark_target-requires
 mark_target-requires c = λ j e.
@@ -36,7 +33,7 @@ loop-x-preserved c =
 
 pub index_mut-requires : goal.index_mut-requires
 index_mut-requires c =
-    let lt = taken_in_code c.args.p.now c.requires.formed c.args.f c.taken_of-j-items.result.now c.loop-j.j-index 0 c.taken_of-j-items.ensures (omega arith) in
+    let lt = taken_in c.args.p.now c.requires.formed c.args.f c.taken_of-j-items.result.now c.loop-j.j-index 0 c.taken_of-j-items.ensures (omega arith) in
     let count = c.loop-j.invariant.count in
     let ok = c.loop-j.marks.ok in
     omega (arith, lt, count, ok)
@@ -44,10 +41,10 @@ index_mut-requires c =
 pub loop-j-preserved : goal.loop-j-preserved
 loop-j-preserved c =
     let taken = c.taken_of-j-items.result.now in
-    let lt = taken_in_code c.args.p.now c.requires.formed c.args.f taken c.loop-j.j-index 0 c.taken_of-j-items.ensures (omega arith) in
+    let lt = taken_in c.args.p.now c.requires.formed c.args.f taken c.loop-j.j-index 0 c.taken_of-j-items.ensures (omega arith) in
     let count = c.loop-j.invariant.count in
     mark_taken (code_of c.args.p.now c.args.f) (length (code_of c.args.p.now c.args.f)) (taken_places c.args.p.now c.args.f) c.loop-j.j-index c.loop-j.marks.items c.loop-j.invariant (get_or taken c.loop-j.j-index 0)
-    (ap (λ (xs : List ℕ). slice_get xs c.loop-j.j-index) (sym c.taken_of-j-items.ensures) ∙ slice_get-get_or taken c.loop-j.j-index 0 (omega arith)) (omega (arith, lt, count))
+    (taken_at c.args.p.now c.args.f taken c.loop-j.j-index 0 c.taken_of-j-items.ensures (omega arith)) (omega (arith, lt, count))
 
 pub returns : goal.returns
 returns c =

@@ -1,6 +1,6 @@
 use Rattle.std.proofs.Common.{length}
 use Rattle.spu_lift.specs.Places.{taken_places}
-use Rattle.spu_frame.specs.Surveys.{code_of}
+use Rattle.spu_frame.specs.Functions.{code_of}
 use Rattle.spu_frame.proofs.Marks.{AreMarks}
 use Rattle.spu_frame.proofs.known.targets.Given as goal
 

@@ -1,12 +1,18 @@
-use Rattle.std.proofs.Common.{◌≡◌, suc, ◌+◌, ◌<◌, [], length, None, inr, ◌∙◌, ap, subst, arith}
+use Rattle.std.proofs.Common.{◌≡◌, suc, ◌+◌, ◌<◌, [], length, replicate, None, inr, ◌∙◌, ap, subst, arith, rules}
 use Rattle.spu_word.specs.Lists.{stands_on}
 use Rattle.spu_graph.specs.Peeling.{IsPeeling}
 use Rattle.spu_graph.proofs.Settled.{settled}
-use Rattle.spu_graph.proofs.Turns.{needs_small, order_short, begins, ends}
+use Rattle.spu_graph.proofs.Turns.{needs_small, order_short, starts_with, begins, ends}
 use Rattle.spu_graph.proofs.peel.peel.Goals as goal
 
 pub settle-requires-clause-small : goal.settle-requires-clause-small
 settle-requires-clause-small c = needs_small _ _ _ _ _ _ _ _ _ _ c.loop-f.invariant c.args.graph.now.few
+
+pub loop-f-init : goal.loop-f-init
+loop-f-init c =
+    let needs : c.in_ok-needs.needs.items ≡ replicate c.count-count.result None = c.in_ok-needs.ensures.items_if_clones_equal (λ y h. search rules) in
+    let waits : c.in_ok-waits.waits.items ≡ replicate c.count-count.result None = c.in_ok-waits.ensures.items_if_clones_equal (λ y h. search rules) in
+    starts_with c.args.graph.now.frames.items c.args.graph.now.edges.items c.count-count.result c.count-count.ensures _ _ _ needs waits c.new-order.ensures.items
 
 pub loop-f-preserved : goal.loop-f-preserved
 loop-f-preserved c =

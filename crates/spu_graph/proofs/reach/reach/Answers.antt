@@ -1,4 +1,4 @@
-use Rattle.std.proofs.Common.{[], List, Bool, false, replicate, subst, arith, ℕ}
+use Rattle.std.proofs.Common.{◌≡◌, [], List, Bool, false, replicate, subst, arith, rules, ℕ}
 use Rattle.spu_graph.specs.Reaching.{IsReaching, IsVisited}
 use Rattle.spu_graph.proofs.Reached.{starts_at, reach_short, reached}
 use Rattle.spu_graph.proofs.reach.reach.Goals as goal
@@ -7,7 +7,8 @@ pub loop-i-init : goal.loop-i-init
 loop-i-init c =
     let count = c.count-count.ensures in
     let entry = c.requires in
-    let seen = subst (λ (z : List Bool). IsVisited z c.new-order.result.items c.args.entry c.visit.new.marks.items c.visit.new.order.items) c.in_ok-marks.ensures c.in_ok-visit.ensures in
+    let none : c.in_ok-marks.marks.items ≡ replicate c.count-count.result false = c.in_ok-marks.ensures.items_if_clones_equal (λ y h. search rules) in
+    let seen = subst (λ (z : List Bool). IsVisited z c.new-order.result.items c.args.entry c.visit.new.marks.items c.visit.new.order.items) none c.in_ok-visit.ensures in
     let fresh = subst (λ (z : List ℕ). IsVisited (replicate c.count-count.result false) z c.args.entry c.visit.new.marks.items c.visit.new.order.items) c.new-order.ensures.items seen in (
       0,
       subst (λ n. IsReaching n c.args.graph.now.edges.items c.args.entry c.visit.new.marks.items c.visit.new.order.items 0 []) count

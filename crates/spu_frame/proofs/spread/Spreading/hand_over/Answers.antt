@@ -3,7 +3,7 @@ use Rattle.spu_word.specs.Chains.{lists_of}
 use Rattle.spu_lift.specs.declared.program.Operand.{Operand}
 use Rattle.spu_lift.specs.declared.program.Operand.TheVariants as operand
 use Rattle.spu_frame.specs.Walks.{Branches}
-use Rattle.spu_frame.specs.Targets.{branch_target}
+use Rattle.spu_frame.specs.Functions.{branch_target}
 use Rattle.spu_frame.proofs.Formed.{branch_within}
 use Rattle.spu_frame.proofs.Ways.{hands_one, hands_nowhere, target_one, target_none}
 use Rattle.spu_frame.proofs.spread.Spreading.hand_over.Goals as goal

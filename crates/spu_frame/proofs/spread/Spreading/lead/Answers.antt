@@ -3,7 +3,8 @@ use Rattle.std.specs.List.{Contains}
 use Rattle.spu_word.specs.Chains.{lists_of}
 use Rattle.spu_lift.specs.declared.program.SymInst.{SymInst}
 use Rattle.spu_lift.specs.Places.{taken_places}
-use Rattle.spu_frame.specs.Surveys.{code_of, Hands, met_at}
+use Rattle.spu_frame.specs.Functions.{code_of}
+use Rattle.spu_frame.specs.Surveys.{Hands, met_at}
 use Rattle.spu_frame.proofs.Ways.{hands_taken}
 use Rattle.spu_frame.proofs.spread.Spreading.lead.Goals as goal
 

@@ -3,7 +3,8 @@ use Rattle.std.specs.List.{Contains}
 use Rattle.spu_word.specs.Chains.{lists_of}
 use Rattle.spu_lift.specs.Places.{taken_places}
 use Rattle.spu_frame.specs.declared.met.Met.{Met}
-use Rattle.spu_frame.specs.Surveys.{code_of, Hands, met_at}
+use Rattle.spu_frame.specs.Functions.{code_of}
+use Rattle.spu_frame.specs.Surveys.{Hands, met_at}
 use Rattle.spu_frame.proofs.Ways.{taken_in, taken_at, among_more, among_all}
 use Rattle.spu_frame.proofs.spread.Spreading.lead_to_taken.Goals as goal
 

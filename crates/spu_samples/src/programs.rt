@@ -1,6 +1,6 @@
-//! Programs of a few steps each, on which judgements are tried.
+//! Programs of a few steps each.
 
-ghost use Rattle.std.specs.Prelude.{◌≡◌, ◌<◌, ◌-◌, ℕ, All, length, true, Some, slice_get, pos, IfOk, IfSome};
+ghost use Rattle.std.specs.Prelude.{◌≡◌, ◌≢◌, ◌<◌, ◌-◌, ℕ, All, codes, length, true, Some, slice_get, pos, IfOk, IfSome};
 ghost use Rattle.spu_lift.specs.declared.program.Operand.TheVariants as operand;
 ghost use Rattle.spu_lift.specs.declared.program.Prog.{Prog};
 ghost use Rattle.spu_lift.specs.declared.program.SymInst.{SymInst};
@@ -49,10 +49,36 @@ pub enum Step {
 
 /// What of a sample's addresses is taken: functions, and places of `main`. Both rise.
 #[derive(Clone, Copy)]
-pub struct Taken {
-    pub functions: &'static [u32],
-    pub places: &'static [u32],
+pub struct Taken<'a> {
+    pub functions: &'a [u32],
+    pub places: &'a [u32],
 }
+
+/// Nothing is taken.
+pub const NONE: Taken<'static> = Taken {
+    functions: &[],
+    places: &[],
+};
+
+/// A frame of 32 bytes, and calls of the second and the third function.
+pub const CALLER: &[Step] = &[
+    Step::Add(1, -32),
+    Step::Call(2),
+    Step::Call(3),
+    Step::Add(1, 32),
+    Step::Return,
+];
+
+/// A frame of 48 bytes, and a call of the third function.
+pub const MIDDLE: &[Step] = &[
+    Step::Add(1, -48),
+    Step::Call(3),
+    Step::Add(1, 48),
+    Step::Return,
+];
+
+/// A frame of 16 bytes.
+pub const LEAF: &[Step] = &[Step::Add(1, -16), Step::Add(1, 16), Step::Return];
 
 /// An instruction of two registers and an immediate field.
 fn of_registers(op: Op, rt: u8, ra: u8, rb: u8, imm: i32) -> Inst
@@ -271,12 +297,17 @@ fn taken_numbers(
 }
 
 /// The places of a function that are taken.
-fn places_of(f: u32, taken: Taken) -> &'static [u32] {
+fn places_of<'a>(f: u32, taken: Taken<'a>) -> &'a [u32] {
     if f == 1 { taken.places } else { &[] }
 }
 
-/// The name of a function.
-pub fn name_at(f: u32) -> &'static [u8] {
+/// The name of a function by its number: each from the fourth on has the same.
+pub fn name_at(f: u32) -> &'static [u8]
+    ensures first { f ≡ 1 → result.now ≡ codes "main" }
+    ensures second { f ≡ 2 → result.now ≡ codes "a" }
+    ensures third { f ≡ 3 → result.now ≡ codes "b" }
+    ensures others { f ≢ 1 → f ≢ 2 → f ≢ 3 → result.now ≡ codes "other" }
+{
     match f {
         1 => b"main",
         2 => b"a",

@@ -2,10 +2,8 @@ use Rattle.std.proofs.Common.{◌≡◌, ◌+◌, ◌≤◌, ◌<◌, ℕ, List,
 use Rattle.std.specs.Prelude.{All}
 use Rattle.spu_lift.specs.declared.program.Function.{Function}
 use Rattle.spu_lift.specs.WellFormed.{IsRising}
-use Rattle.spu_frame.proofs.Formed.{if_some}
-use Rattle.spu_frame.proofs.Tests.{told}
-use Rattle.spu_judge.proofs.SampleFormed.{built_more, formed_as, some_from}
-use Rattle.spu_judge.proofs.samples.program.Goals as goal
+use Rattle.spu_samples.proofs.Formed.{built_more, formed_as, some_from}
+use Rattle.spu_samples.proofs.programs.program.Goals as goal
 
 pub loop-body-preserved : goal.loop-body-preserved
 loop-body-preserved c =
@@ -19,12 +17,12 @@ loop-body-preserved c =
       count = omega (arith, new, long, count);
       built = built_more _ _ _ _ _ _ _ words places c.in_ok-function_of-in-Some-2.field-0 c.len-f.result _ inv.built
           c.in_ok-push-in-Some-2.ensures.ok c.in_ok-push-in-Some-2-2.ensures.ok c.in_ok-function_of-in-Some-2.ensures c.len-f.ensures.value
-          (told c.is_name.result _ c.if-is_name.true c.is_name.ensures)
+          (c.is_name.ensures.0 c.if-is_name.true)
           (some_from _ _ c.is_empty-in-loop-body.ensures c.if-is_empty-2.false) c.if-body-gt65536.false
-          (if_some c.in_ok-words.field-0 words _ c.in-Some.is c.in_ok-words.ensures.count) (omega arith)
-          (if_some c.in_ok-words.field-0 words _ c.in-Some.is c.in_ok-words.ensures.fine)
-          (if_some c.in_ok-places-in-Some.field-0 places IsRising c.in-Some-2.is c.in_ok-places-in-Some.ensures.rising)
-          (if_some c.in_ok-places-in-Some.field-0 places _ c.in-Some-2.is c.in_ok-places-in-Some.ensures.inside);
+          (rw c.in-Some.is at c.in_ok-words.ensures.count) (omega arith)
+          (rw c.in-Some.is at c.in_ok-words.ensures.fine)
+          (rw c.in-Some-2.is at c.in_ok-places-in-Some.ensures.rising)
+          (rw c.in-Some-2.is at c.in_ok-places-in-Some.ensures.inside);
     }
 
 pub returns-in-Some-3 : goal.returns-in-Some-3
@@ -35,5 +33,5 @@ returns-in-Some-3 c =
     let all = c.in-Some-3.all in
     formed_as (length c.args.bodies.now + 1) c.loop-body.functions c.loop-body.code all inv.built (omega arith) (omega (arith, some)) (omega arith)
     c.new.result c.new-in-Some-3.result c.new-in-Some-3-2.result c.from.result c.new.ensures c.new-in-Some-3.ensures c.new-in-Some-3-2.ensures c.from.ensures
-    (if_some c.in_ok-all.field-0 all IsRising c.in-Some-3.is c.in_ok-all.ensures.rising)
-    (if_some c.in_ok-all.field-0 all (All (λ n. (0 < n) × (n < length c.args.bodies.now + 1))) c.in-Some-3.is c.in_ok-all.ensures.inside)
+    (rw c.in-Some-3.is at c.in_ok-all.ensures.rising)
+    (rw c.in-Some-3.is at c.in_ok-all.ensures.inside)

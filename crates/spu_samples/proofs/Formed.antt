@@ -73,6 +73,7 @@ pub record IsBuilt (n : ℕ) (functions : List Function) (sections : List CodeSe
   pub start : slice_get functions 0 ≡ Some (start_code 128 1)
   pub laid : (f : ℕ) (g : Function) → slice_get functions f ≡ Some g → (f ≡ 0) ⊎ IsLaid n f sections g
   pub small : All (λ (c : CodeSection). c.size ≤ MAX_SECTION_SIZE) sections
+  pub filled : All (λ (c : CodeSection). 1 ≤ c.size) sections
 
 pub built_start : (n : ℕ) (functions : List Function) (start : Function) → functions ≡ [] ++ start ∷ [] → start ≡ start_code 128 1 → IsBuilt n functions []
 built_start n functions start is same = subst (λ (fs : List Function). IsBuilt n fs []) (sym is) (record {
@@ -80,6 +81,7 @@ built_start n functions start is same = subst (λ (fs : List Function). IsBuilt 
   start = ap Some same;
   laid = λ f g at. (let lt = slice_get_within (start ∷ []) f g at in inl (omega (arith, lt)));
   small = All-nil (λ (c : CodeSection). c.size ≤ MAX_SECTION_SIZE);
+  filled = All-nil (λ (c : CodeSection). 1 ≤ c.size);
 })
 
 laid_more : (n f : ℕ) (sections : List CodeSection) (s : CodeSection) (g : Function) → IsLaid n f sections g → IsLaid n f (sections ++ s ∷ []) g
@@ -105,6 +107,7 @@ built_more n functions new_functions sections new_sections s name code places g 
       start = get_before functions g (start_code 128 1) 0 b.start;
       laid = each_more (λ k h. (k ≡ 0) ⊎ IsLaid n k (sections ++ s ∷ []) h) functions g (λ k h e. old k h (b.laid k h e)) (inr (subst (λ k. IsLaid n k (sections ++ s ∷ []) g) at (subst (IsLaid n f (sections ++ s ∷ [])) (sym is) here)));
       small = All-append (λ (c : CodeSection). c.size ≤ MAX_SECTION_SIZE) sections (s ∷ []) b.small (All-cons (λ (c : CodeSection). c.size ≤ MAX_SECTION_SIZE) s [] (omega (arith, size, few)) (All-nil (λ (c : CodeSection). c.size ≤ MAX_SECTION_SIZE)));
+      filled = All-append (λ (c : CodeSection). 1 ≤ c.size) sections (s ∷ []) b.filled (All-cons (λ (c : CodeSection). 1 ≤ c.size) s [] (omega (arith, size, some)) (All-nil (λ (c : CodeSection). 1 ≤ c.size)));
     }))
   where
     old : (k : ℕ) (h : Function) → (k ≡ 0) ⊎ IsLaid n k sections h → (k ≡ 0) ⊎ IsLaid n k (sections ++ s ∷ []) h
@@ -194,6 +197,8 @@ module _ (n : ℕ) (functions : List Function) (sections : List CodeSection) (ta
     functions = omega (arith, count, few);
     sections = (let both = built.count in omega (arith, count, few, both));
     small = built.small;
+    filled = built.filled;
+    few_globals = lit≤ tt;
     start = built.start;
     entry = callee;
     each = function_in;

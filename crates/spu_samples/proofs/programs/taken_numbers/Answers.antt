@@ -1,8 +1,8 @@
 use Rattle.std.proofs.Common.{◌≡◌, ◌+◌, ◌≤◌, ◌<◌, ℕ, List, sym, subst, arith, slice_index_or}
 use Rattle.std.specs.Prelude.{All}
 use Rattle.spu_lift.specs.WellFormed.{IsRising}
-use Rattle.spu_judge.proofs.SampleFormed.{rising_more, below_more, inside_more}
-use Rattle.spu_judge.proofs.samples.taken_numbers.Goals as goal
+use Rattle.spu_samples.proofs.Formed.{rising_more, below_more, inside_more}
+use Rattle.spu_samples.proofs.programs.taken_numbers.Goals as goal
 
 pub loop-n-preserved : goal.loop-n-preserved
 loop-n-preserved c =

@@ -1,8 +1,8 @@
 use Rattle.std.proofs.Common.{◌≡◌, ℕ, List, [], ◌∷◌, Some, length, sym, ap, subst, arith, length-append}
 use Rattle.std.specs.Prelude.{slice_get}
 use Rattle.spu_lift.specs.declared.program.SymInst.{SymInst}
-use Rattle.spu_judge.proofs.SampleFormed.{IsFine, each_more}
-use Rattle.spu_judge.proofs.samples.code_of.Goals as goal
+use Rattle.spu_samples.proofs.Formed.{IsFine, each_more}
+use Rattle.spu_samples.proofs.programs.code_of.Goals as goal
 
 pub loop-step-preserved : goal.loop-step-preserved
 loop-step-preserved c = record {
