@@ -132,7 +132,7 @@ module _ (name : List ℕ) (size : ℕ) (code : List SymInst) (first : IsFirstCo
   main_leads y h g (inl (inl (k, o))) = (quiet y.inst.op y.inst.rt y.inst.ra h.stands).call k
   main_leads y h g (inl (inr (k, t))) = (quiet y.inst.op y.inst.rt y.inst.ra h.stands).pointer_call k
   main_leads y h g (inr (inl o)) = let plain = h.plain in cc
-  main_leads y h g (inr (inr (k, ne, none, t))) = ne ((quiet y.inst.op y.inst.rt y.inst.ra h.stands).back k)
+  main_leads y h g (inr (inr (((k, ne), none), t))) = ne ((quiet y.inst.op y.inst.rt y.inst.ra h.stands).back k)
 
   leads_nowhere : (f i : ℕ) (x : SymInst) → instruction_at p f i ≡ Some x → LeadsNowhere f x
   leads_nowhere f i x here =

@@ -92,32 +92,32 @@ quad_saved quads at q aligned lt = fun_ext (λ k.
 pub stored_byte : (quads : List SymQuad) (a : ℕ) (d : SymQuad) → a / 16 < length quads → byte_in (get_or quads (a / 16) d) (a % 16) ≡ store_of quads a
 stored_byte quads a d lt = ap (λ (u : SymQuad). byte_in u (a % 16)) (get_or_default quads (a / 16) d zeros lt) ∙ sym (bytes_at (get_or quads (a / 16) zeros) (a % 16) (omega arith))
 
-pub stored_put : (quads : List SymQuad) (a v : ℕ) (d r : SymQuad) → a / 16 < length quads → ((j : ℕ) → byte_in r j ≡ (if j == a % 16 then Num v else byte_in (get_or quads (a / 16) d) j))
-    → store_of (set quads (a / 16) r) ≡ λ k. if k == a then Num v else store_of quads k
+pub stored_put : (quads : List SymQuad) (a : ℕ) (v : SymByte) (d r : SymQuad) → a / 16 < length quads → ((j : ℕ) → j < 16 → byte_in r j ≡ (if j == a % 16 then v else byte_in (get_or quads (a / 16) d) j))
+    → store_of (set quads (a / 16) r) ≡ λ k. if k == a then v else store_of quads k
 stored_put quads a v d r lt h = fun_ext (λ k. by_quad k (k / 16 == a / 16) refl)
   where
-    here : (k : ℕ) → k / 16 ≡ a / 16 → store_of (set quads (a / 16) r) k ≡ (if k == a then Num v else store_of quads k)
+    here : (k : ℕ) → k / 16 ≡ a / 16 → store_of (set quads (a / 16) r) k ≡ (if k == a then v else store_of quads k)
     here k e =
         ap (λ (u : SymQuad). sym_at (quad_bytes u) (k % 16)) (get_or-set_at quads (a / 16) (k / 16) r zeros e lt)
-        ∙ bytes_at r (k % 16) (omega arith) ∙ h (k % 16)
-        ∙ ap₂ (λ (b : Bool) (s : SymByte). if b then Num v else s)
+        ∙ bytes_at r (k % 16) (omega arith) ∙ h (k % 16) (omega arith)
+        ∙ ap₂ (λ (b : Bool) (s : SymByte). if b then v else s)
         (let same : (k % 16 == a % 16) ≡ (k == a) = grind (arith, nat_tests) in same)
         (ap (λ (u : SymQuad). byte_in u (k % 16)) (get_or_default quads (a / 16) d zeros lt ∙ ap (λ n. get_or quads n zeros) (sym e)) ∙ sym (bytes_at (get_or quads (k / 16) zeros) (k % 16) (omega arith)))
 
-    there : (k : ℕ) → k / 16 ≢ a / 16 → store_of (set quads (a / 16) r) k ≡ (if k == a then Num v else store_of quads k)
+    there : (k : ℕ) → k / 16 ≢ a / 16 → store_of (set quads (a / 16) r) k ≡ (if k == a then v else store_of quads k)
     there k ne =
         ap (λ (u : SymQuad). sym_at (quad_bytes u) (k % 16)) (rw get_or-set_other refl)
-        ∙ ap (λ b. if b then Num v else store_of quads k) (let no : false ≡ (k == a) = grind (arith, nat_tests) in no)
+        ∙ ap (λ b. if b then v else store_of quads k) (let no : false ≡ (k == a) = grind (arith, nat_tests) in no)
 
-    by_quad : (k : ℕ) (b : Bool) → (k / 16 == a / 16) ≡ b → store_of (set quads (a / 16) r) k ≡ (if k == a then Num v else store_of quads k)
+    by_quad : (k : ℕ) (b : Bool) → (k / 16 == a / 16) ≡ b → store_of (set quads (a / 16) r) k ≡ (if k == a then v else store_of quads k)
     by_quad k true e = here k (grind (arith, nat_tests))
     by_quad k false e = there k (grind (arith, nat_tests))
 
 -- ---- the quad of a word
 
-pub numbers_quad : (quad : Quad) (w : ℕ) → quad.0 ≡ quad_of w 0 0 0 → quad_bytes (Numbers quad) ≡ numbers (quad_of w 0 0 0)
+pub numbers_quad : (quad : Quad) (v w : ℕ) → quad.0 ≡ quad_of v w 0 0 → quad_bytes (Numbers quad) ≡ numbers (quad_of v w 0 0)
 unfolding quad_bytes
-numbers_quad quad w e = ap (λ (l : List ℕ). sixteen (λ k. Num (slice_index l k))) e
+numbers_quad quad v w e = ap (λ (l : List ℕ). sixteen (λ k. Num (slice_index l k))) e
 
 -- ---- channels
 

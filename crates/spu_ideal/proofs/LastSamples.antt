@@ -1,5 +1,8 @@
--- The last of the sample programs run.
-use Rattle.std.proofs.Common.{◌≡◌, [], ◌∷◌, Some, refl}
+-- The last of the sample programs run, and loads of one of them.
+use Rattle.std.proofs.Common.{◌≡◌, [], ◌∷◌, None, Some, refl, ◌-◌, ◌^◌}
+use Rattle.std.specs.Prelude.{codes}
+use Rattle.spu_word.specs.declared.load.LoadFault.TheVariants.{UnresolvedName, AreasOverlap, AreaRange}
+use Rattle.spu_ideal.specs.Loading.{load_fault}
 use Rattle.spu_exec.specs.Tags.{status}
 use Rattle.spu_ideal.specs.declared.ending.IdealEnd.TheVariants as ending
 use Rattle.spu_ideal.specs.declared.ending.Reason.TheVariants as reason
@@ -8,7 +11,7 @@ use Rattle.spu_ideal.specs.Results.{are_known, computed_byte, symbolic_byte, lab
 use Rattle.spu_ideal.specs.Channels.{land_all, numbers_from}
 use Rattle.spu_ideal.specs.Machine.{with_entries, run, start, step}
 use Rattle.spu_ideal.specs.Samples.{nothing, one_area, tour_frames}
-use Rattle.spu_ideal.specs.MoreSamples.{asks_now, asks_twice, counts_last, counts_wrongly, finds_area, jumps_by_number, keeps_frame, loads_behind, stores_by_link, takes_tag}
+use Rattle.spu_ideal.specs.MoreSamples.{asks_now, asks_twice, counts_last, counts_wrongly, finds_area, jumps_by_number, keeps_frame, loads_behind, stores_by_link, takes_tag, with_areas, zeros}
 
 pub keeps_frame_stops : (run keeps_frame tour_frames 16384 nothing 9).ended ≡ Some (ending.Stop 8192)
 unfolding run start step with_entries are_known computed_byte symbolic_byte label_value_byte are_parts land_all numbers_from status
@@ -65,3 +68,29 @@ asks_twice_leaves = refl
 pub counts_wrongly_leaves : (run counts_wrongly (λ f. 0) 16384 nothing 2).ended ≡ Some (ending.BadChannel 1)
 unfolding run start step with_entries are_known computed_byte symbolic_byte label_value_byte are_parts land_all numbers_from status
 counts_wrongly_leaves = refl
+
+-- ---- loads
+
+pub one_area_fits : load_fault finds_area one_area ≡ None
+one_area_fits = refl
+
+pub last_bytes_fit : load_fault finds_area (with_areas (zeros (codes "b") 4096 32 ∷ zeros (codes "a") (2 ^ 64 - 16) 16 ∷ [])) ≡ None
+last_bytes_fit = refl
+
+pub no_area_is_unresolved : load_fault finds_area nothing ≡ Some (UnresolvedName (codes "a"))
+no_area_is_unresolved = refl
+
+pub other_area_is_unresolved : load_fault finds_area (with_areas (zeros (codes "b") 4096 16 ∷ zeros (codes "c") 4096 0 ∷ [])) ≡ Some (UnresolvedName (codes "a"))
+other_area_is_unresolved = refl
+
+pub shared_byte_overlaps : load_fault finds_area (with_areas (zeros (codes "a") 4096 33 ∷ zeros (codes "b") 4128 0 ∷ zeros (codes "c") 4128 16 ∷ [])) ≡ Some (AreasOverlap (codes "c"))
+shared_byte_overlaps = refl
+
+pub empty_area_is_no_range : load_fault finds_area (with_areas (zeros (codes "a") 4096 32 ∷ zeros (codes "b") 4096 0 ∷ [])) ≡ Some (AreaRange (codes "b"))
+empty_area_is_no_range = refl
+
+pub odd_address_is_no_range : load_fault finds_area (with_areas (zeros (codes "a") 4096 32 ∷ zeros (codes "b") 4136 8 ∷ [])) ≡ Some (AreaRange (codes "b"))
+odd_address_is_no_range = refl
+
+pub end_is_no_range : load_fault finds_area (with_areas (zeros (codes "a") (2 ^ 64 - 16) 17 ∷ [])) ≡ Some (AreaRange (codes "a"))
+end_is_no_range = refl

@@ -28,7 +28,8 @@ use Rattle.spu_word.specs.declared.load.Inputs.{Inputs}
 use Rattle.spu_ideal.specs.Machine.{obeys, unless_ended, step, start, run}
 use Rattle.spu_ideal.specs.States.{IsOf, IsJudged}
 use Rattle.spu_ideal.specs.Promises.{IsReached, AreWaiting}
-use Rattle.spu_ideal.specs.View.{HasRegisters, IsStateOf, state_of, steps}
+use Rattle.spu_ideal.specs.View.{HasRegisters, IsStateOf, StaysHigh, state_of, steps}
+use Rattle.spu_ideal.proofs.Heights.{pointer_high}
 use Rattle.spu_ideal.proofs.Lifted.{function_within}
 use Rattle.spu_ideal.proofs.Opens.{opens_few}
 use Rattle.spu_ideal.proofs.Runs.{stack_inside}
@@ -95,7 +96,7 @@ judged p d m h = record {
   greatest = h.depths.greatest;
   heaviest = h.heaviest;
   acyclic = h.acyclic;
-  limit = (let a = h.least in let b = h.most in omega (arith, a, b));
+  limit = h.most;
 }
 
 -- of an instruction that stands at its place
@@ -129,6 +130,19 @@ reached_by p frames need good limit least s inv a size t = by_data (is_data p a 
     by_data true e = inl (grind (arith, nat_tests))
     by_data false e = inr (stack_inside p frames need good s inv limit least a size (subst (λ b. (b || is_stack (entry_pointer s.calls) (frames s.f) a size) ≡ true) e t))
 
+pub stays_high : (p : Prog) (d : Depths) (m : Ideal) → IsStateOf p d m → StaysHigh p d (state_of m)
+stays_high p d m h =
+    let good : IsJudged p (frame_at d) h.need = judged p d m h in
+    let high = pointer_high p (frame_at d) h.need good (state_of m) h.state in
+    record {
+      need = h.need;
+      heaviest = h.heaviest;
+      word = h.state.word;
+      pointer = h.state.pointer;
+      high = omega (arith, high);
+      allowed = reached_by p (frame_at d) h.need good h.need (omega arith) (state_of m) h.state;
+    }
+
 pub kept : (p : Prog) (d : Depths) (m n : Ideal) → IsStateOf p d m → state_of n ≡ step p (frame_at d) (state_of m) → n.most_calls ≡ m.most_calls → IsStateOf p d n
 kept p d m n h e room = record {
   formed = h.formed;
@@ -137,12 +151,11 @@ kept p d m n h e room = record {
   need = h.need;
   heaviest = h.heaviest;
   acyclic = h.acyclic;
-  limit = h.limit;
-  least = h.least;
   most = h.most;
+  apart = h.apart;
   state = subst (IsOf p) (sym e) (step_keeps p (frame_at d) h.need (judged p d m h) (state_of m) h.state);
-  waiting = subst (λ (s : Sym). AreWaiting p h.limit s.areas s.queue) (sym e)
-      (waiting_kept p h.limit (frame_at d) (state_of m) (reached_by p (frame_at d) h.need (judged p d m h) h.limit h.least (state_of m) h.state) h.waiting);
+  waiting = subst (λ (s : Sym). AreWaiting p h.need s.areas s.queue) (sym e)
+      (waiting_kept p h.need (frame_at d) (state_of m) (reached_by p (frame_at d) h.need (judged p d m h) h.need (omega arith) (state_of m) h.state) h.waiting);
   room = subst (λ k. length p.functions < k) (sym room) h.room;
 }
 

@@ -126,11 +126,11 @@ module _ (p : Prog) (frames : ℕ → ℕ) (need : ℕ) (judged : IsJudged p fra
     where
       level : Jumps p s.f x g → inv.depth ≡ pos 0
       level (inl o) = judged.good.level s.f s.i inv.depth x inv.reached here (inr (inl (g, o)))
-      level (inr (k, ne, none, taken)) = judged.good.level s.f s.i inv.depth x inv.reached here (inr (inr (k, ne, none)))
+      level (inr (by_pointer, taken)) = judged.good.level s.f s.i inv.depth x inv.reached here (inr (inr by_pointer))
 
       other : Jumps p s.f x g → g ≡ 0 → ⊥
       other (inl o) = (lifted p judged.formed).jumps s.f s.i g x here o
-      other (inr (k, ne, none, taken)) = (lifted p judged.formed).pointers g taken
+      other (inr (by_pointer, taken)) = (lifted p judged.formed).pointers g taken
 
   branch_keeps : kind_of x ≡ kind.Branch → (o : Operand) → x.operand ≡ o → IsOf p (branches o p s)
   branch_keeps k operand.Plain e = ends_keeps p s _ inv
@@ -161,7 +161,7 @@ module _ (p : Prog) (frames : ℕ → ℕ) (need : ℕ) (judged : IsJudged p fra
   -- an indirect branch on another register than 0
   points_keeps : kind_of x ≡ kind.Indirect → (x.inst.ra ≡ 0 → ⊥) → (ts : List ℕ) → taken_places p s.f ≡ ts → (l : Option Label) → word_label (s.regs x.inst.ra) ≡ l → IsOf p (points ts l p s)
   points_keeps k ne [] none None e = ends_keeps p s _ inv
-  points_keeps k ne [] none (Some (Fun g)) e = jump_keeps g (inr (k, ne, none, word_label_taken p (s.regs x.inst.ra) (Fun g) e (inv.labels x.inst.ra)))
+  points_keeps k ne [] none (Some (Fun g)) e = jump_keeps g (inr (((k, ne), none), word_label_taken p (s.regs x.inst.ra) (Fun g) e (inv.labels x.inst.ra)))
   points_keeps k ne [] none (Some (Place f i)) e = ends_keeps p s _ inv
   points_keeps k ne [] none (Some (Link f i)) e = ends_keeps p s _ inv
   points_keeps k ne (t ∷ ts) some None e = ends_keeps p s _ inv
@@ -173,7 +173,7 @@ module _ (p : Prog) (frames : ℕ → ℕ) (need : ℕ) (judged : IsJudged p fra
     where
       own : Contains (taken_places p s.f) j → IsOf p (goes p s.f j s s)
       own taken =
-          turns p s inv x here s j (inr (inr (record { x = x; here = here; indirect = k; other = ne; taken = taken }))) (inr taken)
+          turns p s inv x here s j (inr (inr (record { x = x; here = here; branch = (k, ne); taken = taken }))) (inr taken)
           (elsewhere kind.Indirect k (λ c. cc) (λ c. cc)) (λ c. cc) inv.labels refl
   points_keeps k ne (t ∷ ts) some (Some (Link f i)) e = ends_keeps p s _ inv
 

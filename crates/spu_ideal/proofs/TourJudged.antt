@@ -145,11 +145,11 @@ plain f i x here range own alone stay other none next in_frame =
     (λ h e. other e) (λ n w. other w.1) none (λ e. next) (λ j e. absurd (let e = sym own ∙ e in cc)) in_frame
     (λ e. elim e [
       | inl r ↦ absurd (not_staying _ _ stay refl r.0)
-      | inr more ↦ elim more [ inl j ↦ absurd (let e = sym own ∙ j.1 in cc) | inr q ↦ absurd (not_staying _ _ stay refl q.0) ]
+      | inr more ↦ elim more [ inl j ↦ absurd (let e = sym own ∙ j.1 in cc) | inr q ↦ absurd (not_staying _ _ stay refl q.0.0) ]
     ])
     (λ g l. elim l [
       | inl c ↦ elim c [ inl d ↦ absurd (not_staying _ _ stay refl d.0) | inr q ↦ absurd (not_staying _ _ stay refl q.0) ]
-      | inr j ↦ elim j [ inl o ↦ absurd (let e = sym own ∙ o in cc) | inr q ↦ absurd (not_staying _ _ stay refl q.0) ]
+      | inr j ↦ elim j [ inl o ↦ absurd (let e = sym own ∙ o in cc) | inr q ↦ absurd (not_staying _ _ stay refl q.0.0.0) ]
     ])
 
 -- ai $1,$1,k in main
@@ -167,11 +167,11 @@ moves_pointer i x k here formed own is next before after =
       after = after;
       level = λ e. elim e [
         | inl r ↦ absurd (let e = sym quiet ∙ r.0 in cc)
-        | inr more ↦ elim more [ inl j ↦ absurd (let e = sym own.plain ∙ j.1 in cc) | inr q ↦ absurd (let e = sym quiet ∙ q.0 in cc) ]
+        | inr more ↦ elim more [ inl j ↦ absurd (let e = sym own.plain ∙ j.1 in cc) | inr q ↦ absurd (let e = sym quiet ∙ q.0.0 in cc) ]
       ];
       leads = λ g l. elim l [
         | inl c ↦ elim c [ inl d ↦ absurd (let e = sym quiet ∙ d.0 in cc) | inr q ↦ absurd (let e = sym quiet ∙ q.0 in cc) ]
-        | inr j ↦ elim j [ inl o ↦ absurd (let e = sym own.plain ∙ o in cc) | inr q ↦ absurd (let e = sym quiet ∙ q.0 in cc) ]
+        | inr j ↦ elim j [ inl o ↦ absurd (let e = sym own.plain ∙ o in cc) | inr q ↦ absurd (let e = sym quiet ∙ q.0.0.0 in cc) ]
       ];
     }
 
@@ -194,7 +194,7 @@ taken_is g (suc k, lt, e) = absurd (omega (arith, lt))
 no_exit : (f : ℕ) (x : SymInst) (P : Type 0) → (kind_of x ≡ kind.Indirect → ⊥) → ((g : ℕ) → x.operand ≡ operand.Jump g → ⊥) → IsExit tours f x → P
 no_exit f x P ne jump e = elim e [
   | inl r ↦ absurd (ne r.0)
-  | inr more ↦ elim more [ inl j ↦ absurd (jump j.0 j.1) | inr q ↦ absurd (ne q.0) ]
+  | inr more ↦ elim more [ inl j ↦ absurd (jump j.0 j.1) | inr q ↦ absurd (ne q.0.0) ]
 ]
 
 -- the start code
@@ -227,7 +227,7 @@ helper_right (suc zero) x e = (
     (no_addition (go_back) (λ e. cc)) (λ n w. absurd (let e = w.1 in omega (arith, e))) refl (λ e. refl) (λ j e. absurd cc) (zero_in 2) (λ e. refl)
     (λ g l. elim l [
       | inl c ↦ elim c [ inl d ↦ absurd (let e = d.0 in cc) | inr q ↦ absurd (let e = q.0 in cc) ]
-      | inr j ↦ elim j [ inl o ↦ absurd cc | inr q ↦ absurd (q.1 refl) ]
+      | inr j ↦ elim j [ inl o ↦ absurd cc | inr q ↦ absurd (q.0.0.1 refl) ]
     ])))
 helper_right (suc (suc i)) x e = absurd cc
 
@@ -244,21 +244,21 @@ main_2 : IsRight 1 2 (with_operand op.Lqa 3 (operand.Number 128))
 main_2 =
     still 1 2 _ refl (record { range = record { layout = (lit< tt, refl, refl, refl, omega (arith, ints), omega (arith, ints)); zeros = tt }; stands = (refl, lit< tt); empty = λ e. refl; call = λ e. absurd cc; pointer_call = λ e. absurd cc }) (no_addition (with_operand op.Lqa 3 (operand.Number 128)) (λ e. cc)) (λ n w. absurd (let e = w.1 in omega (arith, e))) refl (λ e. refl) (λ j e. absurd cc) full_in (no_exit 1 (with_operand op.Lqa 3 (operand.Number 128)) _ (λ e. cc) (λ g e. cc)) (λ g l. elim l [
       | inl c ↦ elim c [ inl d ↦ absurd (let e = d.0 in cc) | inr q ↦ absurd (let e = q.0 in cc) ]
-      | inr j ↦ elim j [ inl o ↦ absurd cc | inr q ↦ absurd (let e = q.0 in cc) ]
+      | inr j ↦ elim j [ inl o ↦ absurd cc | inr q ↦ absurd (let e = q.0.0.0 in cc) ]
     ])
 
 main_3 : IsRight 1 3 (with_fields op.Bisl 0 3 0 (pos 0))
 main_3 =
     still 1 3 _ refl (record { range = record { layout = (lit< tt, lit< tt, lit< tt, refl, refl); zeros = (refl, tt) }; stands = refl; empty = λ e. absurd (e refl); call = λ e. absurd cc; pointer_call = λ e. refl }) (no_addition (with_fields op.Bisl 0 3 0 (pos 0)) (λ e. cc)) (λ n w. absurd (let e = w.1 in omega (arith, e))) refl (λ e. refl) (λ j e. absurd cc) full_in (no_exit 1 (with_fields op.Bisl 0 3 0 (pos 0)) _ (λ e. cc) (λ g e. cc)) (λ g l. elim l [
       | inl c ↦ elim c [ inl d ↦ absurd (let e = d.0 in cc) | inr q ↦ taken_is g q.1 ]
-      | inr j ↦ elim j [ inl o ↦ absurd cc | inr q ↦ absurd (let e = q.0 in cc) ]
+      | inr j ↦ elim j [ inl o ↦ absurd cc | inr q ↦ absurd (let e = q.0.0.0 in cc) ]
     ])
 
 main_4 : IsRight 1 4 (with_operand op.Brsl 0 (operand.Call 2))
 main_4 =
     still 1 4 _ refl (record { range = record { layout = (lit< tt, refl, refl, refl, omega (arith, ints), omega (arith, ints)); zeros = tt }; stands = (refl, helper_callee); empty = λ e. refl; call = λ e. refl; pointer_call = λ e. absurd cc }) (no_addition (with_operand op.Brsl 0 (operand.Call 2)) (λ e. cc)) (λ n w. absurd (let e = w.1 in omega (arith, e))) refl (λ e. refl) (λ j e. absurd cc) full_in (no_exit 1 (with_operand op.Brsl 0 (operand.Call 2)) _ (λ e. cc) (λ g e. cc)) (λ g l. elim l [
       | inl c ↦ elim c [ inl d ↦ (let e = d.1 in cc) | inr q ↦ absurd (let e = q.0 in cc) ]
-      | inr j ↦ elim j [ inl o ↦ absurd cc | inr q ↦ absurd (let e = q.0 in cc) ]
+      | inr j ↦ elim j [ inl o ↦ absurd cc | inr q ↦ absurd (let e = q.0.0.0 in cc) ]
     ])
 
 main_5 : IsRight 1 5 (with_fields op.Rchcnt 5 28 0 (pos 0))
@@ -269,14 +269,14 @@ main_6 : IsRight 1 6 (with_operand op.Brz 5 (operand.Branch 8))
 main_6 =
     still 1 6 _ refl (record { range = record { layout = (lit< tt, refl, refl, refl, omega (arith, ints), omega (arith, ints)); zeros = tt }; stands = (refl, (_, refl)); empty = λ e. refl; call = λ e. absurd cc; pointer_call = λ e. absurd cc }) (no_addition (with_operand op.Brz 5 (operand.Branch 8)) (λ e. cc)) (λ n w. absurd (let e = w.1 in omega (arith, e))) refl (λ e. refl) (λ j e. (let is : 8 ≡ j = cc in subst (λ j. depth_at 1 j ≡ pos 32) is refl)) full_in (no_exit 1 (with_operand op.Brz 5 (operand.Branch 8)) _ (λ e. cc) (λ g e. cc)) (λ g l. elim l [
       | inl c ↦ elim c [ inl d ↦ absurd (let e = d.0 in cc) | inr q ↦ absurd (let e = q.0 in cc) ]
-      | inr j ↦ elim j [ inl o ↦ absurd cc | inr q ↦ absurd (let e = q.0 in cc) ]
+      | inr j ↦ elim j [ inl o ↦ absurd cc | inr q ↦ absurd (let e = q.0.0.0 in cc) ]
     ])
 
 main_7 : IsRight 1 7 (with_operand op.Br 0 (operand.Branch 9))
 main_7 =
     still 1 7 _ refl (record { range = record { layout = (lit< tt, refl, refl, refl, omega (arith, ints), omega (arith, ints)); zeros = (refl, tt) }; stands = (refl, (_, refl)); empty = λ e. refl; call = λ e. absurd cc; pointer_call = λ e. absurd cc }) (no_addition (with_operand op.Br 0 (operand.Branch 9)) (λ e. cc)) (λ n w. absurd (let e = w.1 in omega (arith, e))) refl (λ e. refl) (λ j e. (let is : 9 ≡ j = cc in subst (λ j. depth_at 1 j ≡ pos 32) is refl)) full_in (no_exit 1 (with_operand op.Br 0 (operand.Branch 9)) _ (λ e. cc) (λ g e. cc)) (λ g l. elim l [
       | inl c ↦ elim c [ inl d ↦ absurd (let e = d.0 in cc) | inr q ↦ absurd (let e = q.0 in cc) ]
-      | inr j ↦ elim j [ inl o ↦ absurd cc | inr q ↦ absurd (let e = q.0 in cc) ]
+      | inr j ↦ elim j [ inl o ↦ absurd cc | inr q ↦ absurd (let e = q.0.0.0 in cc) ]
     ])
 
 main_8 : IsRight 1 8 (with_fields op.Stop 0 0 0 (pos 1))
@@ -311,7 +311,7 @@ main_15 : IsRight 1 15 (with_operand op.Br 0 (operand.Jump 2))
 main_15 =
     still 1 15 _ refl (record { range = record { layout = (lit< tt, refl, refl, refl, omega (arith, ints), omega (arith, ints)); zeros = (refl, tt) }; stands = (refl, helper_callee, λ e. omega (arith, e)); empty = λ e. refl; call = λ e. absurd cc; pointer_call = λ e. absurd cc }) (no_addition (with_operand op.Br 0 (operand.Jump 2)) (λ e. cc)) (λ n w. absurd (let e = w.1 in omega (arith, e))) refl (λ e. refl) (λ j e. absurd cc) (zero_in 1) (λ e. refl) (λ g l. elim l [
       | inl c ↦ elim c [ inl d ↦ absurd (let e = d.0 in cc) | inr q ↦ absurd (let e = q.0 in cc) ]
-      | inr j ↦ elim j [ inl o ↦ cc | inr q ↦ absurd (let e = q.0 in cc) ]
+      | inr j ↦ elim j [ inl o ↦ cc | inr q ↦ absurd (let e = q.0.0.0 in cc) ]
     ])
 
 main_right : (i : ℕ) (x : SymInst) → instruction_at tours 1 i ≡ Some x → IsRight 1 i x
@@ -514,7 +514,6 @@ data_part = record { address = 128; size = 16; bytes = []; labels = word ∷ [] 
 part_in : IsPart tours data_part
 part_in = record {
   filled = inr refl;
-  bytes = All-nil _;
   rising = λ k l m a b. (let far = slice_get_within (word ∷ []) (k + 1) m b in absurd (omega (arith, far)));
   aligned = λ l c. subst (λ (l : WordLabel). l.offset % 4 ≡ 0) (only word l c) refl;
   inside = λ l c. subst (λ (l : WordLabel). l.offset + 4 ≤ 16) (only word l c) (lit≤ tt);
@@ -526,6 +525,8 @@ formed = record {
   functions = lit≤ tt;
   sections = lit≤ tt;
   small = All-cons (λ (c : CodeSection). c.size ≤ MAX_SECTION_SIZE) text [] (lit≤ tt) (All-nil _);
+  filled = All-cons (λ (c : CodeSection). 1 ≤ c.size) text [] (lit≤ tt) (All-nil _);
+  few_globals = lit≤ tt;
   start = refl;
   entry = main_callee;
   each = function_in;

@@ -1,6 +1,8 @@
 -- More programs on which the symbolic machine is tried: one that stays inside with a put, a branch that is taken, a jump by an address and
 -- a conditional return, and small ones that leave.
-use Rattle.std.specs.Prelude.{ℕ, ◌*◌, ◌+◌, false, List, [], ◌∷◌, length, codes, pos, negsuc}
+use Rattle.std.specs.Prelude.{ℕ, ◌*◌, ◌+◌, false, List, [], ◌∷◌, length, replicate, codes, pos, negsuc}
+use Rattle.spu_word.specs.declared.load.Area.{Area}
+use Rattle.spu_word.specs.declared.load.Inputs.{Inputs}
 use Rattle.spu_isa.specs.declared.operation.Op.TheVariants as op
 use Rattle.spu_lift.specs.declared.program.Label.TheVariants.{Fun}
 use Rattle.spu_lift.specs.declared.program.Operand.TheVariants as operand
@@ -51,6 +53,15 @@ finds_area = record (of_main (with_operand op.Lqa 3 (operand.Number 128) ∷ wit
 -- a get with tag 0; wrch 22,3; wrch 23,0: nothing lands, and tag 1 alone is idle
 abbrev pub asks_now : Prog
 asks_now = with_helper (load_immediate 3 (pos 128) ∷ load_immediate 6 (pos 4096) ∷ load_immediate 7 (pos 16) ∷ load_immediate 8 (pos 64) ∷ load_immediate 9 (pos 3) ∷ write_channel 16 3 ∷ write_channel 17 10 ∷ write_channel 18 6 ∷ write_channel 19 7 ∷ write_channel 20 10 ∷ write_channel 21 8 ∷ write_channel 22 9 ∷ write_channel 23 10 ∷ read_channel 11 24 ∷ with_fields op.Rchcnt 12 21 0 (pos 0) ∷ with_operand op.Lqa 13 (operand.Number 128) ∷ write_channel 28 11 ∷ write_channel 28 12 ∷ write_channel 28 13 ∷ go_back ∷ [])
+
+-- ---- areas that a run is given
+
+-- an area of zeros, by its name, its address and its size
+abbrev pub zeros : List ℕ → ℕ → ℕ → Area
+zeros name ea size = record { name = name; ea = ea; bytes = replicate size 0 }
+
+abbrev pub with_areas : List Area → Inputs
+with_areas areas = record { image_ea = 0; mail = []; areas = areas }
 
 -- ---- outside
 

@@ -17,7 +17,7 @@ use Rattle.spu_frame.specs.Walks.{Holds, Reaches}
 use Rattle.spu_graph.specs.declared.graph.Edge.{Edge}
 use Rattle.spu_graph.specs.Paths.{IsPath}
 pub use Rattle.spu_judge.specs.Judged.{IsJudged}
-use Rattle.spu_ideal.specs.Edges.{Calls, IsEdge, IsJumpEdge}
+use Rattle.spu_ideal.specs.Edges.{Calls, IsJumpEdge}
 use Rattle.spu_ideal.specs.declared.state.OpenCall.{OpenCall}
 use Rattle.spu_ideal.specs.State.{Sym}
 

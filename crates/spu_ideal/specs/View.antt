@@ -1,10 +1,11 @@
 -- The state that the symbolic machine shows, and when it is one of a program and its depths: what a load gives, each step keeps, and
 -- every step rests on.
-use Rattle.std.specs.Prelude.{◌≡◌, ℕ, zero, suc, ◌+◌, ◌/◌, ◌%◌, ◌<◌, ◌≤◌, ◌==◌, if◌then◌else◌, Bool, true, false, List, [], ◌∷◌, Option, Some, None, drop, length, replicate, reverse, slice_index_or}
-use Rattle.spu_word.specs.declared.limits.TheConstants.{MAX_STACK_LIMIT, QUAD_SIZE, REGISTER_COUNT, STORE_SIZE}
+use Rattle.std.specs.Prelude.{◌≡◌, ℕ, zero, suc, ◌+◌, ◌-◌, ◌/◌, ◌%◌, ◌<◌, ◌≤◌, ◌==◌, if◌then◌else◌, Bool, true, false, List, [], ◌∷◌, Option, Some, None, drop, length, replicate, reverse, slice_index_or}
+use Rattle.spu_word.specs.declared.limits.TheConstants.{MAX_STACK_LIMIT, QUAD_SIZE, REGISTER_COUNT, STACK_TOP, STORE_SIZE}
 use Rattle.spu_isa.specs.declared.instruction.Inst.{Inst}
 use Rattle.spu_lift.specs.declared.program.Prog.{Prog}
 use Rattle.spu_lift.specs.declared.symbolic.SymByte.{SymByte}
+use Rattle.spu_lift.specs.Places.{stack_pointer}
 use Rattle.spu_lift.specs.WellFormed.{IsWellFormed}
 use Rattle.spu_frame.specs.declared.depths.Depths.{Depths}
 use Rattle.spu_frame.specs.Frames.{AreDepths}
@@ -14,15 +15,16 @@ use Rattle.spu_ideal.specs.declared.ideal.Ideal.{Ideal}
 use Rattle.spu_ideal.specs.declared.quads.SymQuad.{SymQuad}
 use Rattle.spu_ideal.specs.declared.quads.SymQuad.TheVariants.{Numbers}
 use Rattle.spu_ideal.specs.declared.state.OpenCall.{OpenCall}
-use Rattle.spu_ideal.specs.Bytes.{sym_at}
+use Rattle.spu_ideal.specs.Bytes.{known_word, sym_at}
 use Rattle.spu_ideal.specs.Edges.{IsEdge}
 use Rattle.spu_ideal.specs.Quads.{quad_bytes}
 use Rattle.spu_ideal.specs.State.{Sym, goes, outside}
+use Rattle.spu_ideal.specs.Accesses.{is_allowed}
 use Rattle.spu_ideal.specs.Channels.{Contents}
 use Rattle.spu_ideal.specs.Machine.{step}
 use Rattle.spu_ideal.specs.declared.ending.Reason.TheVariants as reason
 use Rattle.spu_ideal.specs.States.{IsOf}
-use Rattle.spu_ideal.specs.Promises.{AreWaiting}
+use Rattle.spu_ideal.specs.Promises.{AreWaiting, IsReached}
 use Rattle.spu_ideal.specs.Words.{words_of}
 
 -- the bytes of quad k, zeros behind the last
@@ -71,8 +73,9 @@ abbrev pub others : List OpenCall → List OpenCall
 others [] = []
 others (c ∷ cs) = cs
 
--- The program is well formed, these are its depths, its graph isn't recursive from the entry, and the need of the entry fits the limit;
--- what is said of states holds of this one, and so of the transfers that wait; there is room for one open call a function and one more.
+-- The program is well formed, these are its depths, its graph isn't recursive from the entry, and the need of the entry is a stack limit
+-- above which its data end; what is said of states holds of this one, and so, within that need, of the transfers that wait; there is room
+-- for one open call a function and one more.
 pub record IsStateOf (p : Prog) (d : Depths) (m : Ideal) : Type 0 where
   pub formed : IsWellFormed p
   pub depths : AreDepths p (depth_at d) (frame_at d)
@@ -80,12 +83,21 @@ pub record IsStateOf (p : Prog) (d : Depths) (m : Ideal) : Type 0 where
   pub need : ℕ
   pub heaviest : IsNeed (IsEdge p) (frame_at d) p.entry need
   pub acyclic : IsRecursive (IsEdge p) p.entry → ⊥
-  pub limit : ℕ
-  pub least : need ≤ limit
-  pub most : limit ≤ MAX_STACK_LIMIT
+  pub most : need ≤ MAX_STACK_LIMIT
+  pub apart : p.data_end ≤ STACK_TOP - need
   pub state : IsOf p (state_of m)
-  pub waiting : AreWaiting p limit (state_of m).areas (state_of m).queue
+  pub waiting : AreWaiting p need (state_of m).areas (state_of m).queue
   pub room : length p.functions < m.most_calls
+
+-- What every such state keeps within the need of the entry: word 0 of the stack pointer is a number, at most so many bytes below its
+-- start, and what a step may load, store or transfer lies in the data or in so much of the stack.
+pub record StaysHigh (p : Prog) (d : Depths) (s : Sym) : Type 0 where
+  pub need : ℕ
+  pub heaviest : IsNeed (IsEdge p) (frame_at d) p.entry need
+  pub word : ℕ
+  pub pointer : known_word (s.regs stack_pointer) 0 ≡ Some word
+  pub high : STACK_TOP - need ≤ word
+  pub allowed : (a size : ℕ) → is_allowed p (frame_at d) s a size ≡ true → IsReached p need a size
 
 -- whether a function has taken places
 abbrev pub has_places : List ℕ → Bool

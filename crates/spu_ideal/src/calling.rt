@@ -21,7 +21,7 @@ use spu_lift::{Label, Operand, Prog};
 const LINK: u8 = 0;
 
 /// The register that holds the stack pointer.
-const STACK_POINTER: u8 = 1;
+pub(crate) const STACK_POINTER: u8 = 1;
 
 /// A register becomes unknown.
 #[tactic(auto, using(crate::proofs::Going::register_set))]

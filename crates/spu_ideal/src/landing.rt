@@ -71,7 +71,7 @@ fn byte_at(store: &[SymQuad], at: u32) -> SymByte
 }
 
 /// A number becomes the byte at an address.
-fn put_byte(store: &mut [SymQuad], at: u32, v: u8)
+pub(crate) fn put_byte(store: &mut [SymQuad], at: u32, v: u8)
     requires full { length store.old ≡ STORE_SIZE / QUAD_SIZE }
     requires inside { at < STORE_SIZE }
     ensures value { store_of store.new ≡ λ k. if k == at then Num v else store_of store.old k }

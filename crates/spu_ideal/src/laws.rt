@@ -1,7 +1,7 @@
 //! Laws of the symbolic machine.
 
-ghost use Rattle.std.specs.Prelude.{◌≡◌, ◌+◌, ◌-◌, ◌≤◌, ◌⊎◌, ◌∷◌, [], ℕ, List, Some, length, true};
-ghost use Rattle.spu_word.specs.declared.limits.TheConstants.{STACK_TOP};
+ghost use Rattle.std.specs.Prelude.{◌≡◌, ◌+◌, ◌-◌, ◌%◌, ◌≤◌, ◌⊎◌, ◌∷◌, [], ℕ, List, Some, length, true};
+ghost use Rattle.spu_word.specs.declared.limits.TheConstants.{MAX_STACK_LIMIT, QUAD_SIZE, STACK_TOP};
 ghost use Rattle.spu_word.specs.declared.load.Inputs.{Inputs};
 ghost use Rattle.spu_lift.specs.declared.program.Prog.{Prog};
 ghost use Rattle.spu_lift.specs.declared.program.SymInst.{SymInst};
@@ -10,11 +10,14 @@ ghost use Rattle.spu_elf.specs.declared.objects.Object.{Object};
 ghost use Rattle.spu_lift.specs.FirstForm.{IsFirst};
 ghost use Rattle.spu_lift.specs.First.{StandsFor};
 ghost use Rattle.spu_lift.specs.WellFormed.{IsWellFormed};
+ghost use Rattle.spu_judge.specs.declared.outcome.Judged.{Judged};
+ghost use Rattle.spu_judge.specs.Answers.{IsJudgement};
 ghost use Rattle.spu_ideal.specs.Bytes.{known_word, link_of};
 ghost use Rattle.spu_ideal.specs.State.{Sym};
 ghost use Rattle.spu_ideal.specs.Machine.{calls, run, start, step};
 ghost use Rattle.spu_ideal.specs.States.{IsOf, IsJudged};
 ghost use Rattle.spu_ideal.specs.Accesses.{is_allowed};
+ghost use Rattle.spu_ideal.specs.Loading.{IsLoadable};
 ghost use Rattle.spu_ideal.specs.Promises.{AreWaiting, IsHigh, IsReached};
 ghost use Rattle.spu_ideal.specs.Samples.{tours, tour_frames};
 
@@ -76,4 +79,9 @@ pub fn tours_is_judged()
 pub fn step_keeps_waiting()
     ensures { (p : Prog) (frames : ℕ → ℕ) (limit : ℕ) (s : Sym) → ((a size : ℕ) → is_allowed p frames s a size ≡ true → IsReached p limit a size)
         → AreWaiting p limit s.areas s.queue → AreWaiting p limit (step p frames s).areas (step p frames s).queue }
+{}
+
+/// A program that is judged for a limit can be loaded, with its depths and a stack of so many bytes, where its data end below the stack.
+pub fn judgements_are_loadable()
+    ensures { (p : Prog) (limit : ℕ) (j : Judged) → IsJudgement p limit j → limit % QUAD_SIZE ≡ 0 → limit ≤ MAX_STACK_LIMIT → p.data_end ≤ STACK_TOP - limit → IsLoadable j.prog j.depths limit }
 {}

@@ -120,7 +120,7 @@ impl Ideal {
     }
 
     /// Loads a register from where an instruction says.
-    pub(crate) fn load(&mut self, p: &Prog, d: &Depths, x: &SymInst)
+    pub(crate) fn load_register(&mut self, p: &Prog, d: &Depths, x: &SymInst)
         requires kind { (row_of x.now.inst.op).kind ≡ kind.Load }
         requires fields { HasRegisters x.now.inst }
         requires frame { self.old.f < function_count d.now }

@@ -9,7 +9,7 @@ ghost use Rattle.spu_lift.specs.Places.{instruction_at, kind_of};
 ghost use Rattle.spu_ideal.specs.declared.ending.IdealEnd.TheVariants as ending;
 ghost use Rattle.spu_ideal.specs.Ends.{end_of, tick_of};
 ghost use Rattle.spu_ideal.specs.Machine.{acts, computes, goes_indirect, halts_where, obeys, run, start, step, where_taken, branches};
-ghost use Rattle.spu_ideal.specs.View.{HasRegisters, IsStateOf, state_of, steps};
+ghost use Rattle.spu_ideal.specs.View.{HasRegisters, IsStateOf, StaysHigh, state_of, steps};
 
 use crate::computing::computed;
 use crate::conditions::{branch_test, halt_test};
@@ -115,7 +115,7 @@ impl Ideal {
     {
         match kind {
             Kind::Compute => self.compute(p, x),
-            Kind::Load => self.load(p, d, x),
+            Kind::Load => self.load_register(p, d, x),
             Kind::Store => self.save(p, d, x),
             Kind::Branch => self.branch_where(p, x),
             Kind::Call => self.call_direct(p, x.operand),
@@ -166,6 +166,7 @@ impl Ideal {
         requires count { (state_of self.old).steps + 1 < 2 ^ 64 }
         ensures state { state_of self.new ≡ step p.now (frame_at d.now) (state_of self.old) }
         ensures of { IsStateOf p.now d.now self.new }
+        ensures high { StaysHigh p.now d.now (state_of self.new) }
         ensures tick { result ≡ tick_of (state_of self.new).ended }
         ensures count { (state_of self.new).steps ≤ (state_of self.old).steps + 1 }
     {
@@ -188,6 +189,7 @@ impl Ideal {
         requires count { (state_of self.old).steps + budget < 2 ^ 64 }
         ensures state { state_of self.new ≡ steps p.now (frame_at d.now) budget (state_of self.old) }
         ensures of { IsStateOf p.now d.now self.new }
+        ensures high { StaysHigh p.now d.now (state_of self.new) }
         ensures end { result ≡ end_of (state_of self.new).ended }
         ensures running { (result ≡ ending.Running) ↔ ((state_of self.new).ended ≡ None) }
         ensures budget { (state_of self.new).steps ≤ (state_of self.old).steps + budget }

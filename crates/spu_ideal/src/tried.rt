@@ -1,7 +1,9 @@
 //! Runs of sample programs on the symbolic machine.
 
-ghost use Rattle.std.specs.Prelude.{◌≡◌, ◌∷◌, [], Some, map};
+ghost use Rattle.std.specs.Prelude.{◌≡◌, ◌∷◌, ◌-◌, ◌^◌, [], None, Some, codes, map};
 ghost use Rattle.spu_word.specs.declared.load.Area.{Area};
+ghost use Rattle.spu_word.specs.declared.load.LoadFault.TheVariants as faults;
+ghost use Rattle.spu_ideal.specs.Loading.{load_fault};
 ghost use Rattle.spu_ideal.specs.Machine.{run};
 ghost use Rattle.spu_ideal.specs.MoreSamples.{
   visits,
@@ -28,6 +30,8 @@ ghost use Rattle.spu_ideal.specs.MoreSamples.{
   loads_behind,
   stores_by_link,
   takes_tag,
+  with_areas,
+  zeros,
 };
 ghost use Rattle.spu_ideal.specs.Samples.{
   nothing,
@@ -136,4 +140,18 @@ pub fn programs_leave_otherwise()
     ensures counts_last_ends { (run counts_last (λ f. 0) 16384 nothing 2).ended ≡ Some (ending.Outside reason.EndOfCode 1 0) }
     ensures asks_twice_ends { (run asks_twice (λ f. 0) 16384 nothing 5).ended ≡ Some (ending.BadChannel 24) }
     ensures counts_wrongly_ends { (run counts_wrongly (λ f. 0) 16384 nothing 2).ended ≡ Some (ending.BadChannel 1) }
+{}
+
+/// Loads of a program with the quadword of an area `a`: with such an area, and with what is refused, which the least of the faults
+/// names at its first quadword or area. An empty area shares no byte with another.
+#[tactic(auto, using(crate::proofs::LastSamples::one_area_fits, crate::proofs::LastSamples::last_bytes_fit, crate::proofs::LastSamples::no_area_is_unresolved, crate::proofs::LastSamples::other_area_is_unresolved, crate::proofs::LastSamples::shared_byte_overlaps, crate::proofs::LastSamples::empty_area_is_no_range, crate::proofs::LastSamples::odd_address_is_no_range, crate::proofs::LastSamples::end_is_no_range))]
+pub fn loads_are_refused()
+    ensures one_area_is { load_fault finds_area one_area ≡ None }
+    ensures last_bytes_is { load_fault finds_area (with_areas (zeros (codes "b") 4096 32 ∷ zeros (codes "a") (2 ^ 64 - 16) 16 ∷ [])) ≡ None }
+    ensures no_area_is { load_fault finds_area nothing ≡ Some (faults.UnresolvedName (codes "a")) }
+    ensures other_area_is { load_fault finds_area (with_areas (zeros (codes "b") 4096 16 ∷ zeros (codes "c") 4096 0 ∷ [])) ≡ Some (faults.UnresolvedName (codes "a")) }
+    ensures shared_byte_is { load_fault finds_area (with_areas (zeros (codes "a") 4096 33 ∷ zeros (codes "b") 4128 0 ∷ zeros (codes "c") 4128 16 ∷ [])) ≡ Some (faults.AreasOverlap (codes "c")) }
+    ensures empty_area_is { load_fault finds_area (with_areas (zeros (codes "a") 4096 32 ∷ zeros (codes "b") 4096 0 ∷ [])) ≡ Some (faults.AreaRange (codes "b")) }
+    ensures odd_address_is { load_fault finds_area (with_areas (zeros (codes "a") 4096 32 ∷ zeros (codes "b") 4136 8 ∷ [])) ≡ Some (faults.AreaRange (codes "b")) }
+    ensures end_is { load_fault finds_area (with_areas (zeros (codes "a") (2 ^ 64 - 16) 17 ∷ [])) ≡ Some (faults.AreaRange (codes "a")) }
 {}
