@@ -11,7 +11,7 @@ use Rattle.spu_exec.specs.declared.transfers.Form.TheVariants.{Put, Get}
 use Rattle.spu_exec.specs.declared.transfers.Transfer.{Transfer}
 use Rattle.spu_exec.specs.Transfers.{Stretch, stretch_of, is_size, is_shaped, holds_range, some_holds, reached, is_taken}
 use Rattle.spu_exec.specs.Areas.{bytes_at}
-use Rattle.spu_ls.specs.Loading.{shares}
+use Rattle.spu_exec.specs.Admission.{shares}
 use Rattle.spu_ideal.specs.Channels.{no_image}
 use Rattle.spu_ideal.proofs.Areas.{or_true}
 use Rattle.spu_image.proofs.Sound.{IsApartFrom}

@@ -1,5 +1,5 @@
 -- What the parts of a link make of one object of the first form.
-use Rattle.std.proofs.Common.{◌≡◌, ℕ, ◌+◌, ◌-◌, ◌*◌, ◌^◌, ◌<◌, ◌≤◌, List, [], ◌∷◌, length, refl, sym, ap, ◌∙◌, subst, arith}
+use Rattle.std.proofs.Common.{◌≡◌, ℕ, ◌+◌, ◌-◌, ◌*◌, ◌^◌, ◌<◌, ◌≤◌, List, [], ◌∷◌, length, refl, sym, ap, ◌∙◌, inl, subst, arith}
 use Rattle.std.proofs.lemmas.List.Sums.{sum_by-cons}
 use Rattle.spu_elf.specs.declared.objects.Section.{Section}
 use Rattle.spu_elf.specs.declared.objects.Object.{Object}
@@ -95,10 +95,13 @@ module _ (o : Object) (first : IsFirst o) (p : Prog) (stands : StandsFor o p) wh
 pub plan_is : (p : Prog) (code : List CodeSection) (sizes held : List ℕ) (plan : Plan) → code ≡ p.code → sizes ≡ section_sizes code → held ≡ sizes → plan ≡ flat_plan p.data_end held → plan ≡ flat_plan p.data_end (sizes_of p)
 plan_is p code sizes held plan a b c d = d ∙ ap (flat_plan p.data_end) (c ∙ b ∙ ap section_sizes a)
 
+pub fits_at : (o : Object) (first : IsFirst o) (p : Prog) (stands : StandsFor o p) (limit : ℕ) → limit ≡ 16384 → (plan : Plan) → plan ≡ flat_plan p.data_end (sizes_of p) → FitsFlat p plan limit
+fits_at o first p stands limit e plan is_plan = subst (FitsFlat p plan) (sym e) (fits o first p stands plan is_plan)
+
 pub laid_out : (o : Object) (first : IsFirst o) (p : Prog) (stands : StandsFor o p) (limit : ℕ) → limit ≡ 16384 → (plan : Plan) → plan ≡ flat_plan p.data_end (sizes_of p) → (layout : held.Layout) → layout_in layout ≡ layout_of p plan limit
     → function_count layout ≡ length p.functions → IsLaidOut p layout
 laid_out o first p stands limit e plan is_plan layout is count =
-    record { plan = plan; limit = limit; well = formed o first p stands; fits = subst (FitsFlat p plan) (sym e) (fits o first p stands plan is_plan); is = is; functions = count }
+    record { plan = plan; limit = limit; well = formed o first p stands; fits = inl (fits_at o first p stands limit e plan is_plan); is = is; functions = count }
 
 image_at : (p : Prog) (plan : Plan) (limit : ℕ) (layout : held.Layout) (x : Exec) → limit ≡ 16384 → layout_in layout ≡ layout_of p plan limit → IsFlatExec p (layout_in layout) limit untold x → IsFlatExec p (layout_of p plan 16384) 16384 untold x
 image_at p plan limit layout x e is image = subst (λ n. IsFlatExec p (layout_of p plan n) n untold x) e (subst (λ l. IsFlatExec p l limit untold x) is image)

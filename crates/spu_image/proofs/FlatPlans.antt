@@ -1,9 +1,9 @@
 -- The plan that is made for a program without overlays.
-use Rattle.std.proofs.Common.{◌≡◌, ℕ, ◌-◌, ◌%◌, ◌≤◌, Bool, List, [], ◌∷◌, length, refl, sym, ap, ◌∙◌, subst, arith, inl, inr}
+use Rattle.std.proofs.Common.{◌≡◌, ℕ, ◌-◌, ◌%◌, Bool, List, [], ◌∷◌, length, refl, sym, ap, ◌∙◌, subst, arith, inl, inr}
 use Rattle.std.specs.List.{All, AllByRecursion}
 use Rattle.std.proofs.lemmas.List.{length-map}
 use Rattle.std.proofs.lemmas.List.Elements.{All-from_recursion}
-use Rattle.spu_word.specs.declared.limits.TheConstants.{DATA_START, MAX_STACK_LIMIT, STACK_TOP}
+use Rattle.spu_word.specs.declared.limits.TheConstants.{DATA_START, STACK_TOP}
 use Rattle.spu_lift.specs.declared.program.CodeSection.{CodeSection}
 use Rattle.spu_lift.specs.declared.program.Prog.{Prog}
 use Rattle.spu_lift.specs.WellFormed.{IsWellFormed}
@@ -13,7 +13,7 @@ use Rattle.spu_plan.specs.declared.input.PlanInput.{PlanInput}
 use Rattle.spu_plan.specs.declared.plan.Plan.{Plan}
 use Rattle.spu_plan.specs.Plans.{flat_end, flat_plan, rounded}
 use Rattle.spu_plan.specs.Choices as choices
-use Rattle.spu_plan.specs.Choices.{IsEnd, IsPlan, PermitsOverlays}
+use Rattle.spu_plan.specs.Choices.{IsEnd, IsInput, IsPlan, PermitsOverlays}
 use Rattle.spu_layout.specs.Placing.{FitsFlat, section_sizes, sizes_of}
 use Rattle.spu_layout.proofs.Flats.{ends_behind}
 use Rattle.spu_image.specs.Filling.{IsFlatInput}
@@ -25,30 +25,30 @@ whole : (cs : List CodeSection) → AllByRecursion (λ size. size % 16 ≡ 0) (s
 whole [] = tt
 whole (c ∷ cs) = (omega arith, whole cs)
 
-pub input_is : (p : Prog) → IsWellFormed p → (limit : ℕ) → limit ≤ MAX_STACK_LIMIT → (code : List CodeSection) → code ≡ p.code → (sizes : List ℕ) → sizes ≡ section_sizes code → (rooted : List Bool) → length rooted ≡ length code → (functions : ℕ)
-    → IsFlatInput p limit (record { sizes = sizes; rooted = rooted; data_end = p.data_end; functions = functions; room = STACK_TOP - limit; mode = Never; buffers = 1; largest = 16384 })
-input_is p well limit low code same sizes e rooted flags functions =
+-- in any mode
+pub allowed_is : (p : Prog) → IsWellFormed p → (limit : ℕ) → (code : List CodeSection) → code ≡ p.code → (sizes : List ℕ) → sizes ≡ section_sizes code → (rooted : List Bool) → length rooted ≡ length code → (functions : ℕ) (mode : Mode)
+    → IsInput (record { sizes = sizes; rooted = rooted; data_end = p.data_end; functions = functions; room = STACK_TOP - limit; mode = mode; buffers = 1; largest = 16384 })
+allowed_is p well limit code same sizes e rooted flags functions mode =
     let long : length sizes ≡ length code = ap (λ (ns : List ℕ). length ns) e ∙ length-map code (λ (c : CodeSection). rounded c.size) in
     let many : length code ≡ length p.code = ap (λ (cs : List CodeSection). length cs) same in
     let few = well.sections in
     let end = well.data_end in
     record {
-      allowed = record {
-        sections = omega (arith, long, many, few);
-        flags = flags ∙ sym long;
-        quads = subst (All (λ size. size % 16 ≡ 0)) (sym e) (All-from_recursion (λ size. size % 16 ≡ 0) (section_sizes code) (whole code));
-        data_begins = ends_behind DATA_START p.parts p.data_end well.ordered;
-        data_ends = omega (arith, end);
-        data_quads = well.data_aligned;
-        room = omega arith;
-        buffers = (0, omega arith, refl);
-        largest = (2, omega arith, refl);
-      };
-      sizes = e ∙ ap section_sizes same;
-      data_end = refl;
-      room = refl;
-      mode = refl;
+      sections = omega (arith, long, many, few);
+      flags = flags ∙ sym long;
+      quads = subst (All (λ size. size % 16 ≡ 0)) (sym e) (All-from_recursion (λ size. size % 16 ≡ 0) (section_sizes code) (whole code));
+      data_begins = ends_behind DATA_START p.parts p.data_end well.ordered;
+      data_ends = omega (arith, end);
+      data_quads = well.data_aligned;
+      room = omega arith;
+      buffers = (0, omega arith, refl);
+      largest = (2, omega arith, refl);
     }
+
+pub input_is : (p : Prog) → IsWellFormed p → (limit : ℕ) → (code : List CodeSection) → code ≡ p.code → (sizes : List ℕ) → sizes ≡ section_sizes code → (rooted : List Bool) → length rooted ≡ length code → (functions : ℕ)
+    → IsFlatInput p limit (record { sizes = sizes; rooted = rooted; data_end = p.data_end; functions = functions; room = STACK_TOP - limit; mode = Never; buffers = 1; largest = 16384 })
+input_is p well limit code same sizes e rooted flags functions =
+    record { allowed = allowed_is p well limit code same sizes e rooted flags functions Never; sizes = e ∙ ap section_sizes same; data_end = refl; room = refl; mode = refl }
 
 -- ---- what is answered
 

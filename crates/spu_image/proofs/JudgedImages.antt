@@ -1,5 +1,5 @@
 -- The flat image of a judged program, as the code makes it.
-use Rattle.std.proofs.Common.{◌≡◌, ℕ, suc, ◌+◌, ◌-◌, ◌*◌, ◌^◌, ◌<◌, ◌≤◌, Bool, true, false, not, List, [], ◌∷◌, ◌++◌, length, drop, map, Option, Some, None, refl, sym, ap, ◌∙◌, subst, arith}
+use Rattle.std.proofs.Common.{◌≡◌, ℕ, suc, ◌+◌, ◌-◌, ◌*◌, ◌^◌, ◌<◌, ◌≤◌, Bool, true, false, not, List, [], ◌∷◌, ◌++◌, length, drop, map, Option, Some, None, refl, sym, ap, ◌∙◌, inl, subst, arith}
 use Rattle.std.specs.Prelude.{nat_le}
 use Rattle.std.specs.List.{All}
 use Rattle.std.proofs.lemmas.Bool.{cond_both}
@@ -109,7 +109,7 @@ module _ (j : Judged) (limit : ℕ) (judged : IsJudgement j.prog limit j) (low :
   well = judged.judged.formed
 
   pub laid_out : IsLaidOut p layout
-  laid_out = record { plan = plan; limit = limit; well = well; fits = fits; is = is; functions = count }
+  laid_out = record { plan = plan; limit = limit; well = well; fits = inl fits; is = is; functions = count }
 
   module _ (is_told : Bool) (told : List (Option ℕ)) (given : (f : ℕ) → f < length p.functions → told_in told f ≡ told_of is_told (need_of j.needs) f) (x : Exec) (made : IsFlatExec p (layout_in layout) limit (told_in told) x) where
     abbrev needs : ℕ → Option ℕ

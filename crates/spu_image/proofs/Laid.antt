@@ -1,5 +1,7 @@
 -- What the code that makes an image takes of a program and its layout.
 use Rattle.std.proofs.Common.{◌≡◌, ℕ, ◌%◌, ◌^◌, ◌<◌, ◌≤◌, refl, sym, ap, subst, arith, true, pos}
+use Rattle.std.specs.Prelude.{◌==◌, ◌&&◌, ◌||◌}
+use Rattle.std.proofs.lemmas.Bool.{cond_both}
 use Rattle.spu_word.specs.declared.limits.TheConstants.{STORE_SIZE}
 use Rattle.spu_isa.specs.declared.operation.Op.{Op}
 use Rattle.spu_isa.specs.declared.operation.Op.TheVariants as op
@@ -15,13 +17,12 @@ use Rattle.spu_lift.specs.declared.program.Prog.{Prog}
 use Rattle.spu_lift.specs.Places.{place_in, IsPlace}
 use Rattle.spu_lift.specs.StartCode.{of_register, symbolic}
 use Rattle.spu_lift.specs.WellFormed.{IsCallee, IsWellFormed, IsOperand, IsTakenTarget, takes_number, takes_label}
-use Rattle.spu_plan.specs.declared.plan.Plan.{Plan}
 use Rattle.spu_layout.specs.declared.layout.Layout as held
 use Rattle.spu_layout.specs.declared.layout.Span.{Span}
-use Rattle.spu_layout.specs.Layouts.{Layout, IsLaid, IsFlat}
-use Rattle.spu_layout.specs.Labels.{address_of, label_function}
+use Rattle.spu_layout.specs.Layouts.{Layout, IsLaid}
+use Rattle.spu_layout.specs.Labels.{address_of, call_target, jump_target, label_function}
 use Rattle.spu_layout.specs.Views.{function_count, layout_in}
-use Rattle.spu_layout.proofs.Flats.{flat_is_laid, flat_is_flat}
+use Rattle.spu_layout.proofs.Making.{shaped}
 use Rattle.spu_ideal.proofs.Lifted.{function_within}
 use Rattle.spu_image.specs.Words.{IsPatched, IsWordBy, value_of}
 use Rattle.spu_image.specs.Filling.{IsLaidOut}
@@ -29,17 +30,11 @@ use Rattle.spu_image.proofs.Promised.{entered, label_placed, IsPlaced}
 
 module _ (p : Prog) (layout : held.Layout) (out : IsLaidOut p layout) where
   pub laid_by : IsLaid p out.limit (layout_in layout)
-  laid_by = subst (IsLaid p out.limit) (sym out.is) (flat_is_laid p out.plan out.limit out.well out.fits)
-
-  pub flat_by : IsFlat (layout_in layout)
-  flat_by = subst IsFlat (sym out.is) (flat_is_flat p out.plan out.limit out.fits)
+  laid_by = subst (IsLaid p out.limit) (sym out.is) (shaped p out.plan out.limit out.well out.fits).laid
 
   -- data ends in the local store
   pub data_low : p.data_end ≤ STORE_SIZE
-  data_low =
-      let below = out.fits.below in
-      let end = ap (λ (q : Plan). q.end) out.fits.planned in
-      omega (arith, below, end)
+  data_low = let d = laid_by.apart in let e = ap (λ (s : Span). s.to) laid_by.data_area in omega (arith, d, e)
 
   -- places lie in the local store, and so does what labels lead to
   pub inside : (f i : ℕ) → IsPlace p f i → (layout_in layout).at f i ≤ STORE_SIZE
@@ -50,6 +45,21 @@ module _ (p : Prog) (layout : held.Layout) (out : IsLaidOut p layout) where
 
   pub callee_inside : (g : ℕ) → IsCallee p g → (layout_in layout).at g 0 ≤ STORE_SIZE
   callee_inside g callee = inside g 0 (entered p out.well g callee)
+
+  -- so do stubs, and so what calls and jumps lead to
+  entry_inside : (g : ℕ) → IsCallee p g → (layout_in layout).entry g ≤ STORE_SIZE
+  entry_inside g callee =
+      let low = laid_by.entries g (entered p out.well g callee) in
+      let stack = ap (λ (s : Span). s.from) laid_by.stack in
+      omega (arith, low, stack)
+
+  pub call_inside : (f g : ℕ) → IsCallee p g → call_target (layout_in layout) f g ≤ STORE_SIZE
+  call_inside f g callee =
+      cond_both (((layout_in layout).region f == 0) && ((layout_in layout).region g == 0)) ((layout_in layout).at g 0) ((layout_in layout).entry g) (λ a. a ≤ STORE_SIZE) (λ t. callee_inside g callee) (λ t. entry_inside g callee)
+
+  pub jump_inside : (f g : ℕ) → IsCallee p g → jump_target (layout_in layout) f g ≤ STORE_SIZE
+  jump_inside f g callee =
+      cond_both (((layout_in layout).region g == 0) || ((layout_in layout).region g == (layout_in layout).region f)) ((layout_in layout).at g 0) ((layout_in layout).entry g) (λ a. a ≤ STORE_SIZE) (λ t. callee_inside g callee) (λ t. entry_inside g callee)
 
   pub known : (f i : ℕ) → IsPlace p f i → f < function_count layout
   known f i place = let lt = function_within p f i place.0 place.1 in let e = out.functions in omega (arith, lt, e)

@@ -43,3 +43,9 @@ pub mod FlatSteps
 pub mod SampleRuns
 pub mod TourRuns
 pub mod TourLinks
+pub mod RegionBytes
+pub mod Stubs
+pub mod Tables
+pub mod Overlaying
+pub mod Tails
+pub mod OverlayImages

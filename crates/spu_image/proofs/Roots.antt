@@ -74,7 +74,7 @@ word_at l f j (y ∷ xs) (w ∷ ws) h (suc i) x e =
     let few = rest.1 in
     (subst (λ n. IsWord l f n x (slice_index ws i)) z rest.0, omega arith)
 
-as_many : (l : Layout) (f j : ℕ) (xs : List SymInst) (ws : List ℕ) → AreWords l f j xs ws → length ws ≡ length xs
+pub as_many : (l : Layout) (f j : ℕ) (xs : List SymInst) (ws : List ℕ) → AreWords l f j xs ws → length ws ≡ length xs
 as_many l f j [] [] h = refl
 as_many l f j [] (w ∷ ws) h = absurd h
 as_many l f j (x ∷ xs) [] h = absurd h

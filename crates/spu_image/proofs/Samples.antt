@@ -9,6 +9,8 @@ use Rattle.spu_isa.proofs.Decoded.{one_instruction_lem}
 use Rattle.spu_elf.specs.declared.objects.Object.{Object}
 use Rattle.spu_elf.specs.declared.objects.Section.{Section}
 use Rattle.spu_elf.specs.declared.objects.Symbol.{Symbol}
+use Rattle.spu_elf.specs.declared.objects.SymKind.TheVariants as names
+use Rattle.spu_elf.specs.declared.objects.SymPlace.TheVariants as places
 use Rattle.spu_elf.specs.declared.executables.Segment.{Segment}
 use Rattle.spu_elf.specs.declared.executables.Exec.{Exec}
 use Rattle.spu_lift.specs.declared.program.Operand.TheVariants as operand
@@ -23,7 +25,8 @@ use Rattle.spu_ls.specs.Machine.{step}
 use Rattle.spu_ls.specs.declared.ending.RunEnd.TheVariants as machine
 use Rattle.spu_ls.specs.declared.admission.Misfit.{Misfit}
 use Rattle.spu_ls.specs.declared.admission.Misfit.TheVariants as misfits
-use Rattle.spu_ls.specs.Loading.{load_fault, fault_of, misfit_of, or_else, first_unresolved, first_overlap, first_unfit, first_outside, are_inside, is_in_store}
+use Rattle.spu_exec.specs.Admission.{first_overlap, first_unfit}
+use Rattle.spu_ls.specs.Loading.{load_fault, fault_of, misfit_of, or_else, first_unresolved, first_outside, are_inside, is_in_store}
 use Rattle.spu_ls.specs.Sound.{IsOverBytes}
 use Rattle.spu_ls.specs.Start.{image_of, start}
 use Rattle.spu_ideal.specs.Machine.{run}
@@ -35,7 +38,7 @@ use Rattle.spu_image.specs.declared.outcome.Linked.{Linked}
 use Rattle.spu_word.specs.declared.limits.TheConstants.{STACK_TOP}
 use Rattle.spu_plan.specs.declared.plan.Plan.{Plan}
 use Rattle.spu_layout.specs.Placing.{FitsFlat}
-use Rattle.spu_layout.proofs.Flats.{planned}
+use Rattle.spu_layout.proofs.Flats.{flat_is_flat, planned}
 use Rattle.spu_image.specs.Images.{IsLoadSegment, symbols_of, untold}
 use Rattle.spu_image.proofs.FirstFiles.{main_symbol, one_segment}
 use Rattle.spu_image.specs.Matching.{SameEnd}
@@ -67,6 +70,10 @@ none_of x file v n s a b h =
     let none : misfit_of x file nothing ≡ None = ap (λ ms. misfit_by x file ms x.segments) a ∙ ap (misfit_by x file (main_symbol v n ∷ [])) b ∙ none_by x file v n s h in
     ap (option_map (fault_of x nothing)) none
 
+-- the symbol of `main`, in a region
+abbrev main_in : ℕ → ℕ → ℕ → Symbol
+main_in region value size = record { name = codes "main"; value = value; size = size; kind = names.Function; global = true; place = places.Inside region }
+
 none_at : (i : ℕ) (a : Area) → slice_get [] i ≡ Some a → ⊥
 none_at zero a e = cc
 none_at (suc i) a e = cc
@@ -82,9 +89,9 @@ can_start objects limit l h bytes = record {
     by_first objects limit l h =
         let p = l.prog in
         let lay = layout_of l.prog l.plan limit in
-        let q = first_program h.program.section.name h.program.section.size h.program.code in
-        let symbols : l.exec.symbols ≡ symbols_of q lay untold = h.image.symbols ∙ ap (λ p. symbols_of p lay untold) h.program.is in
-        none_of l.exec l.file (lay.at 1 0) (4 * length h.program.code) (one_segment h.image.bytes) symbols h.image.segments (in_store h.image.bytes (room p l.plan limit h.judged.formed h.fits h.image.bytes h.image.holds))
+        let symbols : l.exec.symbols ≡ main_in (lay.region 1) (lay.at 1 0) (4 * length h.program.code) ∷ [] = h.image.symbols ∙ ap (λ p. symbols_of p lay untold) h.program.is in
+        let root : l.exec.symbols ≡ main_symbol (lay.at 1 0) (4 * length h.program.code) ∷ [] = symbols ∙ ap (λ r. main_in r (lay.at 1 0) (4 * length h.program.code) ∷ []) ((flat_is_flat p l.plan limit h.fits).region 1) in
+        none_of l.exec l.file (lay.at 1 0) (4 * length h.program.code) (one_segment h.image.bytes) root h.image.segments (in_store h.image.bytes (room p l.plan limit h.judged.formed h.fits h.image.bytes h.image.holds))
       where
         in_store : (bytes : List ℕ) → 128 + length bytes ≤ 262144 → is_in_store (one_segment bytes) ≡ true
         in_store bytes le = grind (arith, nat_tests)

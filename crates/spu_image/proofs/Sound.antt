@@ -5,7 +5,7 @@ use Rattle.std.specs.List.{AllByRecursion}
 use Rattle.spu_word.specs.declared.load.Area.{Area}
 use Rattle.spu_exec.specs.Values.{HasBytes}
 use Rattle.spu_exec.specs.Transfers.{Stretch, stretch_of}
-use Rattle.spu_ls.specs.Loading.{shares, overlaps, first_overlap}
+use Rattle.spu_exec.specs.Admission.{shares, overlaps, first_overlap}
 use Rattle.spu_ls.specs.Machine.{State}
 use Rattle.spu_ls.specs.Sound.{IsSoundMemory, IsSound}
 

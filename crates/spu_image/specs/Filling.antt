@@ -27,17 +27,18 @@ use Rattle.spu_plan.specs.declared.input.PlanInput.{PlanInput}
 use Rattle.spu_plan.specs.declared.input.Mode.TheVariants.{Never}
 use Rattle.spu_layout.specs.declared.layout.Layout as held
 use Rattle.spu_layout.specs.Layouts.{Layout}
-use Rattle.spu_layout.specs.Placing.{FitsFlat, layout_of, sizes_of}
+use Rattle.spu_layout.specs.Placing.{layout_of, sizes_of}
+use Rattle.spu_layout.specs.Planned.{Fits}
 use Rattle.spu_layout.specs.Views.{function_count, layout_in}
 use Rattle.spu_image.specs.Words.{IsWord}
 use Rattle.spu_image.specs.Images.{Holds, byte_of}
 
--- a program and its layout in the code, by a flat plan
+-- a program and its layout in the code, by a plan with which it fits
 pub record IsLaidOut (p : Prog) (layout : held.Layout) : Type 0 where
   pub plan : Plan
   pub limit : ℕ
   pub well : IsWellFormed p
-  pub fits : FitsFlat p plan limit
+  pub fits : Fits p plan limit
   pub is : layout_in layout ≡ layout_of p plan limit
   pub functions : function_count layout ≡ length p.functions
 

@@ -80,8 +80,9 @@ pub record IsLoadSegment (p : Prog) (l : Layout) (limit : ℕ) (bytes : List ℕ
 
 -- ---- symbols
 
+-- a function's lies in the segment of its region
 abbrev pub function_symbol : Layout → ℕ → Function → Symbol
-function_symbol l f g = record { name = g.name; value = l.at f 0; size = WORD_SIZE * length g.code; kind = kinds.Function; global = g.global; place = places.Inside 0 }
+function_symbol l f g = record { name = g.name; value = l.at f 0; size = WORD_SIZE * length g.code; kind = kinds.Function; global = g.global; place = places.Inside (l.region f) }
 
 -- the symbols of those functions, from f on, that pass a test
 abbrev pub function_symbols : Layout → (Function → Bool) → ℕ → List Function → List Symbol

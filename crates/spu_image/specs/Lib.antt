@@ -4,6 +4,8 @@ pub mod Matching
 pub mod Images
 pub mod Headline
 pub mod Filling
+pub mod Overlays
+pub mod OverlayFilling
 pub mod Linking
 pub mod JudgedLinking
 pub mod Samples

@@ -7,15 +7,16 @@ pub mod laws;
 mod lengths;
 pub mod linking;
 pub mod outcome;
+mod overlay_parts;
+mod overlays;
 mod parts;
 mod planning;
 mod segments;
 mod symbols;
 mod telling;
-#[cfg(test)]
-mod tests;
 mod words;
 
 pub use judged_linking::link_judged;
 pub use linking::link;
 pub use outcome::{Image, ImageFault, LinkFault, LinkOptions, Linked};
+pub use overlays::overlay_exec;

@@ -73,7 +73,7 @@ fn fill_function(p: &Prog, layout: &Layout, sections: &mut [Seq<u32>], f: u32, g
 }
 
 /// The words of all sections.
-fn section_words(alloc: Global, p: &Prog, layout: &Layout) -> Result<Vec<Seq<u32>>, OutOfMemory>
+pub fn section_words(alloc: Global, p: &Prog, layout: &Layout) -> Result<Vec<Seq<u32>>, OutOfMemory>
     requires { IsLaidOut p.now layout.now }
     ensures { IfOk result (λ all. AreFilled p.now (layout_in layout.now) (length p.now.functions) 0 all.items) }
 {
@@ -87,7 +87,7 @@ fn section_words(alloc: Global, p: &Prog, layout: &Layout) -> Result<Vec<Seq<u32
 }
 
 /// Adds words to bytes.
-fn put_words(out: &mut Bytes, words: &[u32]) -> Result<(), OutOfMemory>
+pub fn put_words(out: &mut Bytes, words: &[u32]) -> Result<(), OutOfMemory>
     ensures { OnOk result (out.new ≡ out.old ++ bytes_of_words words.now) }
 {
     for word in words {
@@ -107,7 +107,7 @@ fn put_sections(out: &mut Bytes, sections: &[Seq<u32>]) -> Result<(), OutOfMemor
 }
 
 /// The words of the start code.
-fn start_words(alloc: Global, p: &Prog, layout: &Layout) -> Result<Seq<u32>, OutOfMemory>
+pub fn start_words(alloc: Global, p: &Prog, layout: &Layout) -> Result<Seq<u32>, OutOfMemory>
     requires { IsLaidOut p.now layout.now }
     ensures { IfOk result (AreWords (layout_in layout.now) 0 0 (start_instructions p.now.data_end p.now.entry)) }
 {

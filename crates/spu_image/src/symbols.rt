@@ -5,12 +5,13 @@ ghost use Rattle.spu_word.specs.declared.limits.TheConstants.{STORE_SIZE};
 ghost use Rattle.spu_lift.specs.WellFormed.{IsWellFormed};
 ghost use Rattle.spu_layout.specs.Views.{layout_in};
 ghost use Rattle.spu_image.specs.Images.{data_symbol, function_symbol, function_symbols, kind_of_data, stack_name, stack_symbol_by, stack_symbols, symbols_of};
+ghost use Rattle.spu_image.specs.Overlays.{image_symbol, overlay_symbols};
 ghost use Rattle.spu_image.specs.Filling.{IsLaidOut, has_first, is_of, symbol_as, told_in, without_first};
 
 use spu_elf::{SymKind, SymPlace, Symbol, is_same};
 use spu_layout::Layout;
 use spu_lift::{Ear, Function, Global_, Prog};
-use spu_word::limits::{MAX_NAME_SIZE, WORD_SIZE};
+use spu_word::limits::{MAX_NAME_SIZE, QUAD_SIZE, WORD_SIZE};
 use spu_word::{Name, OutOfMemory, Seq};
 use std::alloc::Global;
 
@@ -33,7 +34,7 @@ fn function_symbol(
         size: WORD_SIZE * g.code.len() as u32,
         kind: SymKind::Function,
         global: g.global,
-        place: SymPlace::Inside(0),
+        place: SymPlace::Inside(layout.region(f)),
     })
 }
 
@@ -229,6 +230,41 @@ pub fn image_symbols(
     let mut symbols = Seq::new(alloc);
     put_symbols(alloc, &mut symbols, p, layout, false)?;
     put_stack_symbols(alloc, &mut symbols, p, told)?;
+    put_symbols(alloc, &mut symbols, p, layout, true)?;
+    put_data_symbols(alloc, &mut symbols, p)?;
+    Ok(symbols)
+}
+
+/// The symbol of the quadword in which the loader finds the address of the file.
+fn image_symbol(alloc: Global, at: u32) -> Result<Symbol, OutOfMemory>
+    ensures { IfOk result (λ s. s ≡ image_symbol at) }
+{
+    Ok(Symbol {
+        name: Seq::copied(alloc, b"__image_ea")?,
+        value: at,
+        size: QUAD_SIZE,
+        kind: SymKind::Object,
+        global: true,
+        place: SymPlace::Inside(0),
+    })
+}
+
+/// The symbols of a program with overlays, with stack symbols of the functions whose needs are told, and with that of the quadword
+/// in which the loader finds the address of the file.
+pub fn overlay_symbols(
+    alloc: Global,
+    p: &Prog,
+    layout: &Layout,
+    told: &[Option<u32>],
+    at: u32,
+) -> Result<Seq<Symbol>, OutOfMemory>
+    requires { IsLaidOut p.now layout.now }
+    ensures { IfOk result (λ s. s ≡ overlay_symbols p.now (layout_in layout.now) at (told_in told.now)) }
+{
+    let mut symbols = Seq::new(alloc);
+    put_symbols(alloc, &mut symbols, p, layout, false)?;
+    put_stack_symbols(alloc, &mut symbols, p, told)?;
+    symbols.push(image_symbol(alloc, at)?)?;
     put_symbols(alloc, &mut symbols, p, layout, true)?;
     put_data_symbols(alloc, &mut symbols, p)?;
     Ok(symbols)

@@ -28,8 +28,8 @@ fn operand_value(p: &Prog, layout: &Layout, f: u32, x: &SymInst) -> u32
         Operand::Plain => 0,
         Operand::Number(n) => n,
         Operand::Address(label) => layout.code(label),
-        Operand::Call(g) => layout.address(g, 0),
-        Operand::Jump(g) => layout.address(g, 0),
+        Operand::Call(g) => layout.call_target(f, g),
+        Operand::Jump(g) => layout.jump_target(f, g),
         Operand::Branch(i) => layout.address(f, i),
     }
 }

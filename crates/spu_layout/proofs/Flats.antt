@@ -30,7 +30,7 @@ pub record Bounds (p : Prog) (plan : Plan) (f i : ℕ) : Type 0 where
   pub up : at p plan f i + 4 ≤ plan.end
   pub aligned : at p plan f i % 4 ≡ 0
 
-none_zero : (k n : ℕ) → slice_index (replicate n 0) k ≡ zero
+pub none_zero : (k n : ℕ) → slice_index (replicate n 0) k ≡ zero
 none_zero k zero = refl
 none_zero zero (suc n) = refl
 none_zero (suc k) (suc n) = none_zero k n

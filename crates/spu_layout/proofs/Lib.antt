@@ -5,4 +5,5 @@ pub mod Making
 pub mod SampleFormed
 pub mod Regions
 pub mod Overlaid
+pub mod Ends
 pub mod PlannedSamples

@@ -5,7 +5,7 @@ use Rattle.std.proofs.Math.Nat.{mul-le-mul_left}
 use Rattle.std.proofs.lemmas.Nat.{mul-mod_first}
 use Rattle.std.proofs.lemmas.List.{length-map}
 use Rattle.std.proofs.lemmas.Option.{slice_get_within}
-use Rattle.spu_word.specs.declared.limits.TheConstants.{DATA_START, STACK_TOP}
+use Rattle.spu_word.specs.declared.limits.TheConstants.{DATA_START, STACK_TOP, STORE_SIZE}
 use Rattle.spu_lift.specs.declared.program.CodeSection.{CodeSection}
 use Rattle.spu_lift.specs.declared.program.Function.{Function}
 use Rattle.spu_lift.specs.declared.program.SymInst.{SymInst}
@@ -20,12 +20,13 @@ use Rattle.spu_plan.specs.Plans.{rounded, flat_plan}
 use Rattle.spu_plan.specs.Cuts.{AreCut}
 use Rattle.spu_plan.specs.Choices.{IsInput, IsFlatPlan, IsOverlayPlan, root_total}
 use Rattle.spu_layout.specs.Layouts.{IsLaid}
+use Rattle.spu_layout.specs.Views.{LieInStore}
 use Rattle.spu_layout.specs.Placing.{sizes_of, size_in, region_size, root_end, stub, loader_start, table_end, buffers_start, region_start, section_start, function_start, at, region_of_function, region, overlay_layout, flat_layout, layout_of, FitsFlat}
 use Rattle.spu_layout.specs.Planned.{IsInputOf, IsPlanned}
 use Rattle.spu_layout.proofs.Steps.{next_place}
 use Rattle.spu_layout.proofs.Sizes.{size_at}
 use Rattle.spu_layout.proofs.Flats.{flat_is_laid, ends_behind}
-use Rattle.spu_layout.proofs.Regions.{root_size, region_fits, within_region, region_quads, long_regions}
+use Rattle.spu_layout.proofs.Regions.{root_size, region_fits, within_region, region_quads, long_regions, regions_known, few_regions}
 
 -- ---- numbers of a list
 
@@ -115,7 +116,7 @@ module _ (p : Prog) (plan : Plan) (limit : ℕ) (well : IsWellFormed p) (input :
   sections : length input.sizes ≡ length p.code
   sections = ap length asked.sizes ∙ long
 
-  some : 1 ≤ plan.buffers
+  pub some : 1 ≤ plan.buffers
   some = (let n = some_buffers input.buffers allowed.buffers in let e = made.buffers in omega (arith, n, e))
 
   -- where the image ends
@@ -130,6 +131,32 @@ module _ (p : Prog) (plan : Plan) (limit : ℕ) (well : IsWellFormed p) (input :
 
   pub below : buffers_start p plan + plan.buffer * plan.buffers ≤ STACK_TOP - limit
   below = (let e = end_is in let fits = made.fits in let room = asked.room in omega (arith, e, fits, room))
+
+  -- ---- what the code takes of the plan
+
+  ends_at : (r : ℕ) → region_start p plan r + region_size p plan r ≤ buffers_start p plan + plan.buffer * plan.buffers
+  ends_at zero = (let t = behind_aligned (table_end p plan) in omega (arith, t))
+  ends_at (suc r) = (let small = region_is_small r in let within = buffer_within plan.buffer plan.buffers r some in omega (arith, small, within))
+
+  pub table_low : table_end p plan ≤ STORE_SIZE
+  table_low = (let t = behind_aligned (table_end p plan) in let low = below in omega (arith, t, low))
+
+  pub few : plan.regions ≤ length p.code
+  few = (let n = few_regions plan.buffer (sizes_of p) input.rooted plan.region_of plan.regions cut in let m = long in omega (arith, n, m))
+
+  pub in_store : LieInStore p plan
+  in_store =
+      let low = below in
+      let end = end_is in
+      record {
+        count = long_regions plan.buffer (sizes_of p) input.rooted plan.region_of plan.regions flags cut ∙ long;
+        known = λ k lt. regions_known plan.buffer (sizes_of p) input.rooted plan.region_of plan.regions cut k;
+        low = λ r lt. (let at = ends_at r in omega (arith, at, low));
+        end = omega (arith, low, end);
+        behind = omega (arith, end);
+        some = λ q. (let n = some in omega (arith, n));
+        buffers = λ q. end;
+      }
 
   -- ---- places
 
@@ -224,16 +251,16 @@ module _ (p : Prog) (plan : Plan) (limit : ℕ) (well : IsWellFormed p) (input :
 
 -- ---- either layout
 
+pub flat_fits : (p : Prog) (plan : Plan) (limit : ℕ) (input : PlanInput) → IsInputOf p limit input → IsFlatPlan input plan → FitsFlat p plan limit
+flat_fits p plan limit input of flat =
+    let is : plan ≡ flat_plan p.data_end (sizes_of p) = flat.is ∙ (ap (λ d. flat_plan d input.sizes) of.data_end ∙ ap (flat_plan p.data_end) of.sizes) in
+    let end = ap (λ (q : Plan). q.end) flat.is in
+    let fits = flat.fits in
+    let room = of.room in
+    record { planned = is; below = omega (arith, end, fits, room) }
+
 pub planned_is_laid : (p : Prog) (plan : Plan) (limit : ℕ) → IsWellFormed p → IsPlanned p plan limit → IsLaid p limit (layout_of p plan limit)
 planned_is_laid p plan limit well planned =
-    ⊎_elim (λ (flat : IsFlatPlan planned.input plan). flat_is_laid p plan limit well (flat_fits flat))
+    ⊎_elim (λ (flat : IsFlatPlan planned.input plan). flat_is_laid p plan limit well (flat_fits p plan limit planned.input planned.of flat))
     (λ (made : IsOverlayPlan planned.input plan). subst (λ v. IsLaid p limit (if v then overlay_layout p plan limit else flat_layout p plan limit)) (sym made.overlay) (laid p plan limit well planned.input planned.allowed planned.of made))
     planned.is
-  where
-    flat_fits : IsFlatPlan planned.input plan → FitsFlat p plan limit
-    flat_fits flat =
-        let is : plan ≡ flat_plan p.data_end (sizes_of p) = flat.is ∙ (ap (λ d. flat_plan d planned.input.sizes) planned.of.data_end ∙ ap (flat_plan p.data_end) planned.of.sizes) in
-        let end = ap (λ (q : Plan). q.end) flat.is in
-        let fits = flat.fits in
-        let room = planned.of.room in
-        record { planned = is; below = omega (arith, end, fits, room) }

@@ -1,7 +1,11 @@
 -- The plans of the samples are ones that are made.
-use Rattle.std.proofs.Common.{◌≡◌, ℕ, zero, suc, ◌%◌, [], ◌∷◌, All, refl, inr, arith}
+use Rattle.std.proofs.Common.{◌≡◌, ℕ, zero, suc, ◌%◌, ◌≤◌, [], ◌∷◌, All, refl, sym, inr, subst, arith}
+use Rattle.spu_word.specs.declared.limits.TheConstants.{STORE_SIZE}
+use Rattle.spu_lift.specs.declared.program.Prog.{Prog}
+use Rattle.spu_plan.specs.declared.plan.Plan.{Plan}
 use Rattle.spu_plan.specs.Choices.{IsInput, IsOverlayPlan}
-use Rattle.spu_layout.specs.Planned.{IsPlanned}
+use Rattle.spu_layout.specs.Layouts.{Layout}
+use Rattle.spu_layout.specs.Planned.{IsPlanned, Fits}
 use Rattle.spu_layout.specs.Samples.{sample}
 use Rattle.spu_layout.specs.PlannedSamples.{sample_input, sample_made, pair, pair_input, pair_made}
 
@@ -73,3 +77,11 @@ pair_is_made = record {
 
 pub pair_is_planned : IsPlanned pair pair_made 16384
 pair_is_planned = record { input = pair_input; allowed = pair_allowed; of = record { sizes = refl; data_end = refl; functions = refl; room = refl }; is = inr pair_is_made }
+
+-- ---- as the test holds it
+
+pub sample_has_plan : (p : Prog) (plan : Plan) → p ≡ sample → plan ≡ sample_made → Fits p plan 4096
+sample_has_plan p plan e q = inr (subst (λ plan. IsPlanned p plan 4096) (sym q) (subst (λ p. IsPlanned p sample_made 4096) (sym e) sample_is_planned))
+
+pub same_within : (address : Layout → ℕ) (l k : Layout) → l ≡ k → address k ≤ STORE_SIZE → address l ≤ STORE_SIZE
+same_within address l k e h = subst (λ (m : Layout). address m ≤ STORE_SIZE) (sym e) h

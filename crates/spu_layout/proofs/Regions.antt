@@ -1,5 +1,5 @@
 -- The sizes of regions: what stays in the root has the root's size, and a region at most a buffer's.
-use Rattle.std.proofs.Common.{◌≡◌, ℕ, zero, suc, ◌+◌, ◌%◌, ◌≤◌, ◌<◌, Bool, true, false, eqb, List, [], ◌∷◌, ◌++◌, length, get_or, refl, sym, ap, ◌∙◌, ⊎_elim, subst, arith}
+use Rattle.std.proofs.Common.{◌≡◌, ℕ, zero, suc, ◌+◌, ◌%◌, ◌≤◌, ◌<◌, Bool, true, false, eqb, List, [], ◌∷◌, ◌++◌, length, get_or, refl, sym, ap, ◌∙◌, ⊎_elim, subst, arith, length-append}
 use Rattle.std.specs.Prelude.{sum, replicate, if◌then◌else◌}
 use Rattle.std.specs.List.{concat}
 use Rattle.std.proofs.lemmas.Bool.{eq-eqb, ne_eqb, cases_lt}
@@ -156,3 +156,58 @@ long_spread (false ∷ fs) (n ∷ ns) (x ∷ xs) a b = (let rest = long_spread f
 pub long_regions : (b : ℕ) (sizes : List ℕ) (rooted : List Bool) (region_of : List ℕ) (count : ℕ) → length rooted ≡ length sizes → AreCut b sizes rooted region_of count → length region_of ≡ length sizes
 long_regions b sizes rooted region_of count flags cut =
     ap length cut.each ∙ long_spread (staying b sizes rooted) (numbers 1 cut.regions) sizes (staying_long b sizes rooted flags) (long_of b sizes rooted region_of count flags cut)
+
+-- ---- regions have numbers up to their count
+
+abbrev Low : ℕ → List ℕ → Type 0
+Low n [] = Unit {0}
+Low n (x ∷ xs) = (x ≤ n) × Low n xs
+
+low_at : (n : ℕ) (xs : List ℕ) → Low n xs → (k : ℕ) → get_or xs k 0 ≤ n
+low_at n [] h k = omega arith
+low_at n (x ∷ xs) h zero = h.0
+low_at n (x ∷ xs) h (suc k) = low_at n xs h.1 k
+
+low_repeated : (n k m : ℕ) (ns : List ℕ) → m ≤ n → Low n ns → Low n (replicate k m ++ ns)
+low_repeated n zero m ns h rest = rest
+low_repeated n (suc k) m ns h rest = (h, low_repeated n k m ns h rest)
+
+low_numbers : (n m : ℕ) (regions : List (List ℕ)) → m + length regions ≤ n + 1 → Low n (numbers m regions)
+low_numbers n m [] h = tt
+low_numbers n m (region ∷ rest) h = low_repeated n (length region) m (numbers (suc m) rest) (omega arith) (low_numbers n (suc m) rest (omega arith))
+
+low_spread : (n : ℕ) (stay : List Bool) (ns : List ℕ) → Low n ns → Low n (spread stay ns)
+low_spread n [] ns h = tt
+low_spread n (true ∷ fs) ns h = (omega arith, low_spread n fs ns h)
+low_spread n (false ∷ fs) [] h = tt
+low_spread n (false ∷ fs) (m ∷ ns) h = (h.0, low_spread n fs ns h.1)
+
+pub regions_known : (b : ℕ) (sizes : List ℕ) (rooted : List Bool) (region_of : List ℕ) (count : ℕ) → AreCut b sizes rooted region_of count → (k : ℕ) → get_or region_of k 0 ≤ count
+regions_known b sizes rooted region_of count cut k =
+    subst (λ rs. get_or rs k 0 ≤ count) (sym cut.each)
+    (low_at count (spread (staying b sizes rooted) (numbers 1 cut.regions)) (low_spread count (staying b sizes rooted) (numbers 1 cut.regions) (low_numbers count 1 cut.regions (let many = cut.many in omega (arith, many)))) k)
+
+-- ---- there are at most as many regions as sections
+
+some_sections : (b : ℕ) (regions : List (List ℕ)) → AreRegions b regions → length regions ≤ length (concat regions)
+some_sections b [] each = omega arith
+some_sections b (region ∷ rest) each =
+    let own = each.0.some in
+    let further = some_sections b rest each.2 in
+    let both = length-append region (concat rest) in
+    omega (arith, own, further, both)
+
+few_overlaid : (stay : List Bool) (sizes : List ℕ) → length (overlaid stay sizes) ≤ length sizes
+few_overlaid [] sizes = omega arith
+few_overlaid (true ∷ fs) [] = omega arith
+few_overlaid (false ∷ fs) [] = omega arith
+few_overlaid (true ∷ fs) (x ∷ xs) = (let rest = few_overlaid fs xs in omega (arith, rest))
+few_overlaid (false ∷ fs) (x ∷ xs) = (let rest = few_overlaid fs xs in omega (arith, rest))
+
+pub few_regions : (b : ℕ) (sizes : List ℕ) (rooted : List Bool) (region_of : List ℕ) (count : ℕ) → AreCut b sizes rooted region_of count → count ≤ length sizes
+few_regions b sizes rooted region_of count cut =
+    let some = some_sections b cut.regions cut.cut.each in
+    let whole = ap length cut.cut.whole in
+    let few = few_overlaid (staying b sizes rooted) sizes in
+    let many = cut.many in
+    omega (arith, some, whole, few, many)

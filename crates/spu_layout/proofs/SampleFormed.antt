@@ -4,7 +4,7 @@ use Rattle.std.specs.Prelude.{slice_get}
 use Rattle.std.specs.List.{Contains}
 use Rattle.std.proofs.lemmas.Option.{slice_get_within}
 use Rattle.std.proofs.lemmas.List.Elements.{All-nil, All-cons}
-use Rattle.spu_word.specs.declared.limits.TheConstants.{MAX_SECTION_SIZE, STORE_SIZE}
+use Rattle.spu_word.specs.declared.limits.TheConstants.{MAX_SECTION_SIZE}
 use Rattle.spu_elf.specs.Validity.{IsName}
 use Rattle.spu_lift.specs.declared.program.CodeSection.{CodeSection}
 use Rattle.spu_lift.specs.declared.program.Function.{Function}
@@ -17,9 +17,9 @@ use Rattle.spu_lift.proofs.FirstFormed.{lqr_formed, brsl_formed, stop_formed}
 use Rattle.spu_lift.proofs.FirstValid.{main_is_name}
 use Rattle.spu_plan.specs.declared.plan.Plan.{Plan}
 use Rattle.spu_plan.specs.Plans.{flat_plan}
-use Rattle.spu_layout.specs.Layouts.{Layout}
 use Rattle.spu_layout.specs.Placing.{FitsFlat, section_sizes}
-use Rattle.spu_layout.specs.Samples.{nop, sample, flat_sample}
+use Rattle.spu_layout.specs.Planned.{Fits}
+use Rattle.spu_layout.specs.Samples.{nop, sample}
 
 abbrev Printed : ℕ → Type 0
 Printed c = (33 ≤ c) × (c ≤ 126)
@@ -130,7 +130,6 @@ data_part = record { address = 128; size = 32; bytes = []; labels = [] }
 part_formed : IsPart sample data_part
 part_formed = record {
   filled = inr refl;
-  bytes = All-nil _;
   rising = λ k l m a b. (let far = slice_get_within [] k l a in absurd (omega (arith, far)));
   aligned = λ l c. absurd (none_in l c);
   inside = λ l c. absurd (none_in l c);
@@ -139,6 +138,9 @@ part_formed = record {
 
 abbrev IsSmall : CodeSection → Type 0
 IsSmall c = c.size ≤ MAX_SECTION_SIZE
+
+abbrev IsFilled : CodeSection → Type 0
+IsFilled c = 1 ≤ c.size
 
 abbrev a : CodeSection
 a = record { name = codes "a"; size = 20 }
@@ -154,6 +156,8 @@ formed = record {
   functions = lit≤ tt;
   sections = lit≤ tt;
   small = All-cons IsSmall a (b ∷ c ∷ []) (lit≤ tt) (All-cons IsSmall b (c ∷ []) (lit≤ tt) (All-cons IsSmall c [] (lit≤ tt) (All-nil IsSmall)));
+  filled = All-cons IsFilled a (b ∷ c ∷ []) (lit≤ tt) (All-cons IsFilled b (c ∷ []) (lit≤ tt) (All-cons IsFilled c [] (lit≤ tt) (All-nil IsFilled)));
+  few_globals = lit≤ tt;
   start = refl;
   entry = callee;
   each = function_at;
@@ -178,10 +182,7 @@ formed = record {
 pub sample_formed : (p : Prog) → p ≡ sample → IsWellFormed p
 sample_formed p e = subst IsWellFormed (sym e) formed
 
-pub sample_fits : (p : Prog) (sizes : List ℕ) (plan : Plan) → p ≡ sample → sizes ≡ section_sizes p.code → plan ≡ flat_plan 160 sizes → FitsFlat p plan 4096
+pub sample_fits : (p : Prog) (sizes : List ℕ) (plan : Plan) → p ≡ sample → sizes ≡ section_sizes p.code → plan ≡ flat_plan 160 sizes → Fits p plan 4096
 sample_fits p sizes plan e s q =
-    subst (λ plan. FitsFlat p plan 4096) (sym q)
-    (subst (λ sizes. FitsFlat p (flat_plan 160 sizes) 4096) (sym s) (subst (λ p. FitsFlat p (flat_plan 160 (section_sizes p.code)) 4096) (sym e) (record { planned = refl; below = lit≤ tt })))
-
-pub sample_inside : (l : Layout) (f i : ℕ) → l ≡ flat_sample → flat_sample.at f i ≤ STORE_SIZE → l.at f i ≤ STORE_SIZE
-sample_inside l f i e h = subst (λ (l : Layout). l.at f i ≤ STORE_SIZE) (sym e) h
+    inl (subst (λ plan. FitsFlat p plan 4096) (sym q)
+    (subst (λ sizes. FitsFlat p (flat_plan 160 sizes) 4096) (sym s) (subst (λ p. FitsFlat p (flat_plan 160 (section_sizes p.code)) 4096) (sym e) (record { planned = refl; below = lit≤ tt }))))

@@ -1,18 +1,13 @@
-//! Layouts of flat images.
+//! Layouts.
 
-ghost use Rattle.std.specs.Prelude.{◌≡◌, ◌+◌, ◌<◌, ◌≤◌, ◌∷◌, All, IfOk, drop, length, map, sum};
-ghost use Rattle.spu_word.specs.declared.limits.TheConstants.{MAX_SECTION_SIZE, MAX_STACK_LIMIT, STORE_SIZE};
-ghost use Rattle.spu_lift.specs.declared.program.CodeSection.{CodeSection};
-ghost use Rattle.spu_lift.specs.WellFormed.{IsWellFormed};
-ghost use Rattle.spu_plan.specs.Plans.{rounded};
-ghost use Rattle.spu_layout.specs.Placing.{FitsFlat, layout_of, section_sizes};
-ghost use Rattle.spu_layout.specs.Views.{AreStarts, LiesIn, start_in, function_count, layout_in};
+ghost use Rattle.std.specs.Prelude.{◌≡◌, ◌<◌, ◌≤◌};
+ghost use Rattle.spu_word.specs.declared.limits.TheConstants.{STORE_SIZE};
+ghost use Rattle.spu_layout.specs.Views.{function_count, layout_in};
 
-use spu_lift::{CodeSection, Function, Label, Prog};
-use spu_plan::{Plan, START_SIZE};
-use spu_word::limits::{DATA_START, QUAD_SIZE, STACK_TOP, STORE_SIZE, WORD_SIZE};
-use spu_word::{OutOfMemory, Seq};
-use std::alloc::Global;
+use spu_lift::Label;
+use spu_plan::constants::STUB_SIZE;
+use spu_word::Seq;
+use spu_word::limits::WORD_SIZE;
 
 /// A range of addresses, its end outside.
 #[derive(Clone, Copy, PartialEq, Eq, Debug)]
@@ -30,16 +25,47 @@ pub struct Areas {
     pub stack: Span,
 }
 
+/// Where a function begins, and its region.
+#[derive(Clone, Copy)]
+pub(crate) struct Spot {
+    pub(crate) start: u32,
+    pub(crate) region: u32,
+}
+
+/// What stands behind the root: in an overlay image the stubs and the loader's words, the mapped quadwords, and the table; in
+/// a flat one nothing.
+#[derive(Clone, Copy)]
+pub(crate) struct Tail {
+    pub(crate) passage: Span,
+    pub(crate) return_entry: u32,
+    pub(crate) slots: Span,
+    pub(crate) end: u32,
+}
+
 /// Where the functions of a program lie, and the parts of the local store.
 #[derive(Drop)]
 pub struct Layout {
-    // The address of the first word of each function.
-    starts: Seq<u32>,
-    areas: Areas,
+    pub(crate) functions: Seq<Spot>,
+    // Whether labels of functions lead to stubs.
+    pub(crate) overlay: bool,
+    pub(crate) tail: Tail,
+    pub(crate) areas: Areas,
 }
 
 impl Layout {
-    ghost use Rattle.spu_layout.specs.Labels.{address_of, label_function};
+    ghost use Rattle.spu_layout.specs.Labels.{address_of, call_target, jump_target, label_function};
+
+    /// Where function f is.
+    fn spot(&self, f: u32) -> Spot
+        requires { f < function_count self.now }
+        ensures start { result.start ≡ (layout_in self.now).at f 0 }
+        ensures region { result.region ≡ (layout_in self.now).region f }
+    {
+        match self.functions.get(f as usize) {
+            Some(spot) => *spot,
+            None => unreachable!(),
+        }
+    }
 
     /// The address of word i of function f, or of the place behind its last one.
     pub fn address(&self, f: u32, i: u32) -> u32
@@ -47,10 +73,7 @@ impl Layout {
         requires inside { (layout_in self.now).at f i ≤ STORE_SIZE }
         ensures { result ≡ (layout_in self.now).at f i }
     {
-        match self.starts.get(f as usize) {
-            Some(start) => *start + WORD_SIZE * i,
-            None => unreachable!(),
-        }
+        self.spot(f).start + WORD_SIZE * i
     }
 
     /// The region of function f, 0 for the root.
@@ -58,18 +81,66 @@ impl Layout {
         requires { f < function_count self.now }
         ensures { result ≡ (layout_in self.now).region f }
     {
-        0
+        self.spot(f).region
     }
 
-    /// The address of a label: that of a function or place, and for a link that to which it leads.
+    /// Where a label of function f leads: to its stub, and in a flat image to its first word.
+    fn entry(&self, f: u32) -> u32
+        requires known { f < function_count self.now }
+        requires inside { (layout_in self.now).entry f ≤ STORE_SIZE }
+        ensures { result ≡ (layout_in self.now).entry f }
+    {
+        if self.overlay {
+            self.tail.passage.from + STUB_SIZE * f.saturating_sub(1)
+        } else {
+            self.spot(f).start
+        }
+    }
+
+    /// The address of a label: that of a place; for a function, in the root too, that of its stub, and in a flat image its own;
+    /// and for a link that to which it leads, from a region the loader's.
     pub fn code(&self, l: Label) -> u32
         requires known { label_function l < function_count self.now }
         requires inside { address_of (layout_in self.now) l ≤ STORE_SIZE }
         ensures { result ≡ address_of (layout_in self.now) l }
     {
         match l {
-            Label::Fun(f) => self.address(f, 0),
-            Label::Place(f, i) | Label::Link(f, i) => self.address(f, i),
+            Label::Fun(f) => self.entry(f),
+            Label::Place(f, i) => self.address(f, i),
+            Label::Link(f, i) => if self.region(f) == 0 {
+                self.address(f, i)
+            } else {
+                self.tail.return_entry
+            },
+        }
+    }
+
+    /// Where a call of function g in function f leads: to g's stub where either is in a region.
+    pub fn call_target(&self, f: u32, g: u32) -> u32
+        requires caller { f < function_count self.now }
+        requires callee { g < function_count self.now }
+        requires inside { call_target (layout_in self.now) f g ≤ STORE_SIZE }
+        ensures { result ≡ call_target (layout_in self.now) f g }
+    {
+        if self.region(f) == 0 && self.region(g) == 0 {
+            self.address(g, 0)
+        } else {
+            self.entry(g)
+        }
+    }
+
+    /// Where a jump to function g in function f leads: to g's stub where g is in a region that isn't f's own.
+    pub fn jump_target(&self, f: u32, g: u32) -> u32
+        requires from { f < function_count self.now }
+        requires to { g < function_count self.now }
+        requires inside { jump_target (layout_in self.now) f g ≤ STORE_SIZE }
+        ensures { result ≡ jump_target (layout_in self.now) f g }
+    {
+        let region = self.region(g);
+        if region == 0 || region == self.region(f) {
+            self.address(g, 0)
+        } else {
+            self.entry(g)
         }
     }
 
@@ -82,100 +153,25 @@ impl Layout {
     {
         self.areas
     }
-}
 
-/// A size rounded up to whole quadwords.
-fn rounded(size: u32) -> u32
-    requires { size ≤ MAX_SECTION_SIZE }
-    ensures { result ≡ rounded size }
-{
-    (size + (QUAD_SIZE - 1)) / QUAD_SIZE * QUAD_SIZE
-}
-
-/// The sizes of sections of code, each rounded up to whole quadwords: those that a plan is made for.
-pub fn section_sizes(alloc: Global, code: &[CodeSection]) -> Result<Seq<u32>, OutOfMemory>
-    requires { All (λ (c : CodeSection). c.size ≤ MAX_SECTION_SIZE) code.now }
-    ensures { IfOk result (λ sizes. sizes ≡ section_sizes code.now) }
-{
-    let mut sizes = Seq::new(alloc);
-    for section in code {
-        sizes.push(rounded(section.size))?;
+    /// The stubs and the loader's words: where a run is between the places of functions. Empty in a flat image.
+    pub fn passage(&self) -> Span
+        ensures { result ≡ (layout_in self.now).passage }
+    {
+        self.tail.passage
     }
-    Ok(sizes)
-}
 
-/// Where sections of code begin, the first of them at an address.
-fn section_starts(alloc: Global, code: &[CodeSection], from: u32) -> Result<Seq<u32>, OutOfMemory>
-    requires small { All (λ (c : CodeSection). c.size ≤ MAX_SECTION_SIZE) code.now }
-    requires fits { from + sum (section_sizes code.now) ≤ STORE_SIZE }
-    ensures { IfOk result (AreStarts from (section_sizes code.now)) }
-{
-    let mut starts = Seq::new(alloc);
-    let mut end = from;
-    for section in code {
-        starts.push(end)?;
-        end += rounded(section.size);
+    /// The mapped quadwords, one for each buffer. Empty in a flat image.
+    pub fn slots(&self) -> Span
+        ensures { result ≡ (layout_in self.now).slots }
+    {
+        self.tail.slots
     }
-    Ok(starts)
-}
 
-/// The address of the first word of each function: of the start code, and of these others in their sections.
-fn function_starts(
-    alloc: Global,
-    start: u32,
-    others: &[Function],
-    sections: &[u32],
-) -> Result<Seq<u32>, OutOfMemory>
-    requires { All (LiesIn sections.now) others.now }
-    ensures { IfOk result (λ s. s ≡ start ∷ map (start_in sections.now) others.now) }
-{
-    let mut starts = Seq::new(alloc);
-    starts.push(start)?;
-    for g in others {
-        starts.push(sections[g.section as usize] + g.offset)?;
+    /// Where links of places in regions lead.
+    pub fn return_entry(&self) -> u32
+        ensures { result ≡ (layout_in self.now).return_entry }
+    {
+        self.tail.return_entry
     }
-    Ok(starts)
-}
-
-/// The functions of a program but for the start code.
-fn others(p: &Prog) -> &[Function]
-    requires { IsWellFormed p.now }
-    ensures { result.now ≡ drop 1 p.now.functions }
-{
-    &p.functions.as_slice()[1..]
-}
-
-/// The layout of a program by a plan, with a stack of this many bytes. The plan is that of a flat image.
-pub fn lay_out(alloc: Global, p: &Prog, plan: &Plan, limit: u32) -> Result<Layout, OutOfMemory>
-    requires well_formed { IsWellFormed p.now }
-    requires fits { FitsFlat p.now plan.now limit }
-    requires limit { limit ≤ MAX_STACK_LIMIT }
-    ensures layout { IfOk result (λ l. layout_in l ≡ layout_of p.now plan.now limit) }
-    ensures functions { IfOk result (λ l. function_count l ≡ length p.now.functions) }
-{
-    let data_end = p.data_end as u32;
-    let sections = section_starts(alloc, p.code.as_slice(), data_end + START_SIZE)?;
-    let starts = function_starts(alloc, data_end + QUAD_SIZE, others(p), sections.as_slice())?;
-    let stack = Span {
-        from: STACK_TOP - limit,
-        to: STORE_SIZE,
-    };
-    Ok(Layout {
-        starts,
-        areas: Areas {
-            data_area: Span {
-                from: DATA_START,
-                to: data_end,
-            },
-            code: Span {
-                from: data_end,
-                to: plan.end,
-            },
-            buffer: Span {
-                from: plan.end,
-                to: plan.end,
-            },
-            stack,
-        },
-    })
 }

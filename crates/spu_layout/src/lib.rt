@@ -3,8 +3,10 @@
 
 pub mod laws;
 mod layout;
+mod placing;
 pub mod planned;
 #[cfg(test)]
 mod tests;
 
-pub use layout::{Areas, Layout, Span, lay_out, section_sizes};
+pub use layout::{Areas, Layout, Span};
+pub use placing::{lay_out, section_sizes};

@@ -1,4 +1,4 @@
-use Rattle.std.proofs.Common.{ℕ, List, Option, subst, arith}
+use Rattle.std.proofs.Common.{ℕ, List, Option, inl, subst, arith}
 use Rattle.spu_graph.specs.Known.{need_of}
 use Rattle.spu_layout.specs.Views.{layout_in}
 use Rattle.spu_image.specs.Images.{IsFlatExec}
@@ -6,6 +6,9 @@ use Rattle.spu_image.specs.Filling.{told_in}
 use Rattle.spu_image.proofs.NeedBounds.{if_small, told_small}
 use Rattle.spu_image.proofs.JudgedImages.{few, linked, one_segment, short, too_large, valid}
 use Rattle.spu_image.proofs.judged_linking.link_judged.Goals as goal
+
+pub lay_out-requires-clause-fits : goal.lay_out-requires-clause-fits
+lay_out-requires-clause-fits c = inl c.in_ok-plan.ensures.fits
 
 pub told_needs-requires : goal.told_needs-requires
 told_needs-requires c = λ f. if_small (need_of c.args.judged.needs f) (λ v e. told_small c.args.judged.prog c.args.limit c.args.judged c.requires.judged c.requires.limit f v e)
