@@ -5,6 +5,7 @@ ghost use Rattle.spu_lift.specs.WellFormed.{IsWellFormed};
 ghost use Rattle.spu_frame.specs.Found.{function_count};
 ghost use Rattle.spu_map.specs.Stacks.{frame_line, function_line, stack_text};
 
+use crate::texts::named_line;
 use spu_frame::Depths;
 use spu_graph::Needs;
 use spu_lift::Prog;
@@ -16,10 +17,7 @@ fn frame_line(alloc: Global, frame: u32, need: u64, name: &[u8]) -> Result<Bytes
     ensures { IfOk result (λ t. t ≡ frame_line frame need name.now) }
 {
     let front = format!(in alloc; "frame {frame} need {need} ")?;
-    let mut line = Seq::copied(alloc, front.as_bytes())?;
-    line.extend(name)?;
-    line.push(b'\n')?;
-    Ok(line)
+    Ok(named_line(alloc, front.as_str(), name)?)
 }
 
 /// The line of a function, where a path from the entry reaches it.
@@ -58,4 +56,28 @@ pub fn stack_text(alloc: Global, p: &Prog, d: &Depths, n: &Needs) -> Result<Byte
         text.extend(function_line(alloc, p, d, n, f)?.as_slice())?;
     }
     Ok(text)
+}
+
+#[cfg(test)]
+mod tests {
+    use super::*;
+    use spu_judge::judge_program;
+    use spu_samples::{CALLER, LEAF, MIDDLE, NONE, program};
+    use std::test::Fail;
+
+    // `main` calls `a` and `b`, `a` calls `b`; nothing calls the last function
+    #[test]
+    fn stack_is_told(rt: HostRuntime) -> Result<(), Fail> {
+        let bodies = [CALLER, MIDDLE, LEAF, LEAF];
+        let prog = program(rt.alloc(), &bodies, NONE)?.ok_or("not well formed")?;
+        match judge_program(rt.alloc(), prog, 96) {
+            Ok(judged) => {
+                let text = stack_text(rt.alloc(), &judged.prog, &judged.depths, &judged.needs)?;
+                let wanted = b"frame 32 need 96 main\nframe 48 need 64 a\nframe 16 need 16 b\n";
+                assert_eq!(rt; text.as_slice(), wanted.as_slice());
+                Ok(())
+            }
+            Err(_) => Err("no judgement".into()),
+        }
+    }
 }

@@ -11,7 +11,7 @@ use Rattle.spu_tool.specs.declared.options.OptionName.{OptionName}
 use Rattle.spu_tool.specs.declared.options.OptionName.TheVariants.{Steps, Mail, Area, Image}
 use Rattle.spu_tool.specs.declared.options.Options.{Options}
 use Rattle.spu_tool.specs.declared.command.Command.{Command}
-use Rattle.spu_tool.specs.declared.command.Command.TheVariants.{Assemble, Link, Embed, Run}
+use Rattle.spu_tool.specs.declared.command.Command.TheVariants.{Assemble, Link, Map, Embed, Run}
 use Rattle.spu_tool.specs.declared.request.Action.TheVariants as action
 use Rattle.spu_tool.specs.Numbers.{bounded, number_of, number_within, word_of}
 use Rattle.spu_tool.specs.Lists.{members_of, is_word, words_of, mail_of}
@@ -33,6 +33,7 @@ Named Embed [] = Unit {0}
 Named Embed (name ∷ rest) = IsName name
 Named Assemble operands = Unit {0}
 Named Link operands = Unit {0}
+Named Map operands = Unit {0}
 Named Run operands = Unit {0}
 
 -- the options are sound, and each area has a file
@@ -168,6 +169,7 @@ name_valid word e =
 named_more : (command : Command) (operands : List (List ℕ)) (word : List ℕ) → is_operand command (length operands) word ≡ true → Named command operands → Named command (operands ++ word ∷ [])
 named_more Assemble operands word e h = tt
 named_more Link operands word e h = tt
+named_more Map operands word e h = tt
 named_more Run operands word e h = tt
 named_more Embed [] word e h = name_valid word e
 named_more Embed (x ∷ xs) word e h = h
@@ -222,6 +224,7 @@ embed_complete (name ∷ input ∷ output ∷ rest) r h e =
 by_command : (command : Command) (given : Given) (r : Asked) → Sound command given → asked_by command given ≡ Some r → Complete r
 by_command Assemble given r h e = let t = two_is _ _ _ r e in subst Complete t.2 (one t.0)
 by_command Link given r h e = let t = two_is _ _ _ r e in subst Complete t.2 (one t.1)
+by_command Map given r h e = let t = mapped _ _ r e in subst Complete t.2 (one t.0)
 by_command Embed given r h e = embed_complete given.operands r h.named e
 by_command Run given r h e = let t = mapped _ _ r e in subst Complete t.2 (omega (arith, h.files), h.options)
 
@@ -232,6 +235,7 @@ asked_is (Some a) n r e = let same : a ≡ r = cc in ap Some same
 none : (command : Command) → Named command []
 none Assemble = tt
 none Link = tt
+none Map = tt
 none Embed = tt
 none Run = tt
 

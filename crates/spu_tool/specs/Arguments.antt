@@ -9,11 +9,10 @@ use Rattle.spu_elf.specs.Validity.{is_printed}
 use Rattle.std.specs.Borrow.{Bor}
 use Rattle.spu_io.specs.NameTable.{pointed_to}
 use Rattle.spu_tool.specs.declared.command.Command.{Command}
-use Rattle.spu_tool.specs.declared.command.Command.TheVariants.{Assemble, Link, Embed, Run}
+use Rattle.spu_tool.specs.declared.command.Command.TheVariants.{Assemble, Link, Map, Embed, Run}
 use Rattle.spu_tool.specs.declared.options.OptionName.{OptionName}
 use Rattle.spu_tool.specs.declared.options.OptionName.TheVariants.{Steps, Mail, Area, Image}
 use Rattle.spu_tool.specs.declared.options.Options.{Options}
-use Rattle.spu_tool.specs.declared.options.RunOptions.{RunOptions}
 use Rattle.spu_tool.specs.declared.arguments.ParseFault.{ParseFault}
 use Rattle.spu_tool.specs.declared.arguments.ParseFault.TheVariants as faults
 use Rattle.spu_tool.specs.declared.request.Request.{Request}
@@ -29,6 +28,7 @@ abbrev pub command_named : List ℕ → Option Command
 command_named word =
     if bytes_eq word (codes "asm") then Some Assemble else
     if bytes_eq word (codes "link") then Some Link else
+    if bytes_eq word (codes "map") then Some Map else
     if bytes_eq word (codes "embed") then Some Embed else
     if bytes_eq word (codes "run") then Some Run else
     None
@@ -37,6 +37,7 @@ command_named word =
 abbrev pub most_operands : Command → ℕ
 most_operands Assemble = 2
 most_operands Link = 2
+most_operands Map = 1
 most_operands Embed = 3
 most_operands Run = 1
 
@@ -44,6 +45,7 @@ most_operands Run = 1
 abbrev pub has_option : Command → OptionName → Bool
 has_option Assemble name = false
 has_option Link name = false
+has_option Map name = false
 has_option Embed name = false
 has_option Run Steps = true
 has_option Run Mail = true
@@ -58,6 +60,7 @@ is_symbol_name word = not (length word == 0) && (nat_le (length word) MAX_NAME_S
 abbrev pub is_operand : Command → ℕ → List ℕ → Bool
 is_operand Assemble index word = true
 is_operand Link index word = true
+is_operand Map index word = true
 is_operand Embed index word = not (index == 0) || is_symbol_name word
 is_operand Run index word = true
 
@@ -164,16 +167,17 @@ asked_embed (name ∷ []) = None
 asked_embed (name ∷ input ∷ []) = None
 asked_embed (name ∷ input ∷ output ∷ rest) = Some (record { inputs = input ∷ []; output = Some output; action = action.Embed name })
 
--- the executable is read, and then the files of areas
-abbrev pub asked_run : List (List ℕ) → List (List ℕ) → RunOptions → Option Asked
-asked_run operands files options =
-    option_map (λ input. record { inputs = input ∷ files; output = None; action = action.Run options }) (slice_get operands 0)
+-- the executable is read, and then the files of areas; none is written
+abbrev pub asked_read : List (List ℕ) → List (List ℕ) → Action → Option Asked
+asked_read operands files wanted =
+    option_map (λ input. record { inputs = input ∷ files; output = None; action = wanted }) (slice_get operands 0)
 
 abbrev pub asked_by : Command → Given → Option Asked
 asked_by Assemble given = asked_assemble given.operands
 asked_by Link given = asked_link given.operands
+asked_by Map given = asked_read given.operands [] action.Map
 asked_by Embed given = asked_embed given.operands
-asked_by Run given = asked_run given.operands given.files (run_options given.options)
+asked_by Run given = asked_read given.operands given.files (action.Run (run_options given.options))
 
 -- where words are missing the fault is behind the last
 abbrev pub or_missing : Option Asked → ℕ → Result Asked ℕ

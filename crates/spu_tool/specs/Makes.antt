@@ -25,6 +25,7 @@ use Rattle.spu_word.specs.declared.load.Area.{Area}
 use Rattle.spu_word.specs.declared.load.Inputs.{Inputs}
 use Rattle.hex.specs.Hex.{encode_lower}
 use Rattle.spu_tool.specs.Areas.{areas_of}
+use Rattle.spu_map.specs.Maps.{map_text}
 use Rattle.spu_asm.specs.Assembly.{Assembles, IsFaultOf}
 use Rattle.spu_asm.specs.Faults.{Fault}
 use Rattle.spu_ls.specs.Machine.{State, steps}
@@ -110,6 +111,23 @@ pub record AssemblesNot (text : List ℕ) (m : Made) : Type 0 where
 
 abbrev pub MakesAssemble : List ℕ → Made → Type 0
 MakesAssemble text m = AssemblesTo text m ⊎ AssemblesNot text m
+
+-- ---- map
+
+-- the bytes spell an executable
+pub record IsExec (exec : Exec) (bytes : List ℕ) : Type 0 where
+  pub read : exec_fault bytes ≡ None
+  pub valid : IsValidExec exec
+  pub spelled : spell_exec exec ≡ bytes
+
+-- its map is put
+pub record MapsTo (bytes : List ℕ) (m : Made) : Type 0 where
+  pub exec : Exec
+  pub is_exec : IsExec exec bytes
+  pub is : m ≡ made status.Ok None (map_text exec)
+
+abbrev pub MakesMap : List ℕ → List ℕ → Made → Type 0
+MakesMap name bytes m = MapsTo bytes m ⊎ ReadsNot (exec_fault bytes) name m
 
 -- ---- run
 
@@ -214,12 +232,6 @@ MakesRunOf options name bytes files m =
 
 -- ---- embed
 
--- the bytes spell an executable
-pub record IsExec (exec : Exec) (bytes : List ℕ) : Type 0 where
-  pub read : exec_fault bytes ≡ None
-  pub valid : IsValidExec exec
-  pub spelled : spell_exec exec ≡ bytes
-
 -- it is embedded, and nothing is put
 pub record EmbedsTo (handle bytes : List ℕ) (m : Made) : Type 0 where
   pub exec : Exec
@@ -252,6 +264,7 @@ first xs = slice_index_or xs 0 []
 abbrev pub MakesBy : Action → List (List ℕ) → List (List ℕ) → Made → Type 0
 MakesBy action.Assemble names files = MakesAssemble (first files)
 MakesBy action.Link names files = MakesLink (first names) (first files)
+MakesBy action.Map names files = MakesMap (first names) (first files)
 MakesBy (action.Embed handle) names files = MakesEmbed handle (first names) (first files)
 MakesBy (action.Run options) names files = MakesRunOf options (first names) (first files) (drop 1 files)
 
@@ -259,5 +272,6 @@ MakesBy (action.Run options) names files = MakesRunOf options (first names) (fir
 abbrev pub IsComplete : Action → ℕ → Type 0
 IsComplete action.Assemble files = 1 ≤ files
 IsComplete action.Link files = 1 ≤ files
+IsComplete action.Map files = 1 ≤ files
 IsComplete (action.Embed handle) files = (1 ≤ files) × IsName handle
 IsComplete (action.Run options) files = (files ≡ 1 + length options.places) × AreSound options

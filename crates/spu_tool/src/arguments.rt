@@ -3,13 +3,13 @@
 ghost use Rattle.std.specs.Prelude.{◌≡◌, [], ◌∷◌, map, string_bytes, length, IfOk, IfErr};
 ghost use Rattle.std.specs.Option.{option_map};
 ghost use Rattle.spu_tool.specs.Options.{IsTaken};
-ghost use Rattle.spu_tool.specs.Arguments.{asked, asked_of, asked_from, asked_assemble, asked_link, asked_embed, asked_run, texts_of, read_after, nothing_given, is_option, parts_in, IsFaultOf};
+ghost use Rattle.spu_tool.specs.Arguments.{asked, asked_of, asked_from, asked_assemble, asked_link, asked_embed, asked_read, texts_of, read_after, nothing_given, is_option, parts_in, IsFaultOf};
 ghost use Rattle.spu_tool.specs.declared.arguments.ParseFault.TheVariants as faults;
 
 use crate::areas::{AreaWord, area_word};
 use crate::command::Command;
 use crate::cutting::cut_at;
-use crate::options::{OptionName, Options, RunOptions};
+use crate::options::{OptionName, Options};
 use crate::request::{Action, Request};
 use spu_word::{OutOfMemory, Seq};
 use std::alloc::Global;
@@ -233,20 +233,20 @@ fn with_files<'a>(
     Ok(all)
 }
 
-// The request of `run IN`, with the files of areas.
-fn run_request<'a>(
+// A request that reads an executable, and then other files, and writes none.
+fn reading_request<'a>(
     alloc: Global,
     operands: &[&'a str],
     files: &[&'a str],
-    options: RunOptions,
+    action: Action,
 ) -> Result<Option<Request<'a>>, OutOfMemory>
-    ensures { IfOk result (λ r. option_map asked_of r ≡ asked_run (texts_of operands.now) (texts_of files.now) options) }
+    ensures { IfOk result (λ r. option_map asked_of r ≡ asked_read (texts_of operands.now) (texts_of files.now) action) }
 {
     match operands.get(0) {
         Some(input) => Ok(Some(Request {
             inputs: with_files(alloc, input, files)?,
             output: None,
-            action: Action::Run(options),
+            action,
         })),
         None => Ok(None),
     }
@@ -272,12 +272,13 @@ impl<'a> Arguments<'a> {
         match command {
             Command::Assemble => assemble_request(alloc, operands.as_slice()),
             Command::Link => link_request(alloc, operands.as_slice()),
+            Command::Map => reading_request(alloc, operands.as_slice(), &[], Action::Map),
             Command::Embed => embed_request(alloc, operands.as_slice()),
-            Command::Run => run_request(
+            Command::Run => reading_request(
                 alloc,
                 operands.as_slice(),
                 files.as_slice(),
-                options.into_run(alloc),
+                Action::Run(options.into_run(alloc)),
             ),
         }
     }
@@ -359,6 +360,9 @@ mod tests {
             ("link a b c", 4),
             ("link a --entry=b c", 3),
             ("link --steps=1 a b", 2),
+            ("map", 2),
+            ("map a b", 3),
+            ("map --steps=1 a", 2),
             ("embed a b", 4),
             ("embed \u{e9} b c", 2),
             ("embed a b c d", 5),
@@ -409,7 +413,7 @@ mod tests {
     fn steps_of(action: Action) -> Option<u32> {
         match action {
             Action::Run(options) => Some(options.steps),
-            Action::Assemble | Action::Link | Action::Embed(_) => None,
+            Action::Assemble | Action::Link | Action::Map | Action::Embed(_) => None,
         }
     }
 
@@ -439,7 +443,7 @@ mod tests {
     fn areas_of(request: &Request<'_>) -> Option<usize> {
         match &request.action {
             Action::Run(options) => Some(options.places.len()),
-            Action::Assemble | Action::Link | Action::Embed(_) => None,
+            Action::Assemble | Action::Link | Action::Map | Action::Embed(_) => None,
         }
     }
 

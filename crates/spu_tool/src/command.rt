@@ -16,6 +16,8 @@ pub enum Command {
     Assemble,
     /// `link OUT IN`
     Link,
+    /// `map IN`
+    Map,
     /// `embed NAME IN OUT`
     Embed,
     /// `run IN`
@@ -46,6 +48,7 @@ impl Command {
         match word {
             b"asm" => Some(Command::Assemble),
             b"link" => Some(Command::Link),
+            b"map" => Some(Command::Map),
             b"embed" => Some(Command::Embed),
             b"run" => Some(Command::Run),
             _ => None,
@@ -59,6 +62,7 @@ impl Command {
         match self {
             Command::Assemble => 2,
             Command::Link => 2,
+            Command::Map => 1,
             Command::Embed => 3,
             Command::Run => 1,
         }
@@ -70,7 +74,7 @@ impl Command {
     {
         match (self, name) {
             (Command::Run, _) => true,
-            (Command::Assemble | Command::Link | Command::Embed, _) => false,
+            (Command::Assemble | Command::Link | Command::Map | Command::Embed, _) => false,
         }
     }
 
@@ -79,7 +83,7 @@ impl Command {
         ensures { result ≡ is_operand self index word.now }
     {
         match self {
-            Command::Assemble | Command::Link | Command::Run => true,
+            Command::Assemble | Command::Link | Command::Map | Command::Run => true,
             Command::Embed => index != 0 || is_symbol_name(word),
         }
     }

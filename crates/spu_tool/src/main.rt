@@ -1,4 +1,4 @@
-//! The tool: texts are assembled, objects are linked, and executables are embedded and run.
+//! The tool: texts are assembled, objects are linked, and executables are mapped, embedded and run.
 #![tactic(auto)]
 
 mod areas;
@@ -14,6 +14,7 @@ mod link_command;
 mod lists;
 mod made;
 mod making;
+mod map_command;
 mod numbers;
 mod options;
 mod reading;

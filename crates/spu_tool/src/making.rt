@@ -8,6 +8,7 @@ use crate::assemble_command::assemble_command;
 use crate::embed_command::{embed_command, run_any};
 use crate::link_command::link_command;
 use crate::made::Made;
+use crate::map_command::map_command;
 use crate::request::Action;
 use spu_word::{Bytes, OutOfMemory};
 use std::alloc::Global;
@@ -58,6 +59,7 @@ pub fn make(
             )
         }
         Action::Link => link_command(alloc, first_name(names), first_file(files)),
+        Action::Map => map_command(alloc, first_name(names), first_file(files)),
         Action::Run(options) => {
             run_any(
                 alloc,

@@ -10,6 +10,8 @@ pub enum Action {
     Assemble,
     /// The executable of an object.
     Link,
+    /// The map of an executable.
+    Map,
     /// The object that embeds an executable, with a handle of this name.
     Embed(Name),
     /// What a run of an executable shows.

@@ -290,3 +290,36 @@ fn older_overlay_image(rt: HostRuntime) -> Result<(), Fail> {
     assert_eq!(rt; outside.out.as_slice(), text.as_slice());
     Ok(())
 }
+
+#[test]
+fn maps(rt: HostRuntime) -> Result<(), Fail> {
+    let alloc = rt.alloc();
+    let old = bytes_of(alloc, OLD)?;
+    let mut outside = Outside::new(alloc, None, None)?;
+    outside.files.hold("old", old.as_slice())?;
+    outside.files.hold("cut", b"\x7fELF")?;
+    let calls = [
+        ("map old", Status::Ok),
+        ("map cut", Status::Refused),
+        ("map none", Status::ReadFault),
+        ("map old --steps=1", Status::Words),
+        ("map old cut", Status::Words),
+        ("map", Status::Words),
+    ];
+    for (line, status) in calls {
+        assert_eq!(rt; outside.call(alloc, line)?, status, "at {line}");
+    }
+    let text = b"image overlay entry 144
+load 128 384
+region 1 512 16 512
+object 448 16 __image_ea
+func 160 28 0 main
+func 512 12 1 f
+E1 Truncated cut 4
+words 3
+words 3
+words 2
+";
+    assert_eq!(rt; outside.out.as_slice(), text.as_slice());
+    Ok(())
+}

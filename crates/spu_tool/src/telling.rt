@@ -8,7 +8,7 @@ use std::alloc::Global;
 use std::io;
 
 const USAGE: &str =
-    "asm IN OUT | link OUT IN | embed NAME IN OUT | run IN [--steps=N] [--mail=N,N] [--area=NAME:EA:FILE] [--image=EA]";
+    "asm IN OUT | link OUT IN | map IN | embed NAME IN OUT | run IN [--steps=N] [--mail=N,N] [--area=NAME:EA:FILE] [--image=EA]";
 
 /// The words of a command, or of all.
 fn usage(words: &[String]) -> &'static str {
@@ -18,6 +18,7 @@ fn usage(words: &[String]) -> &'static str {
     {
         Some(Command::Assemble) => "asm IN OUT",
         Some(Command::Link) => "link OUT IN",
+        Some(Command::Map) => "map IN",
         Some(Command::Embed) => "embed NAME IN OUT",
         Some(Command::Run) => "run IN [--steps=N] [--mail=N,N] [--area=NAME:EA:FILE] [--image=EA]",
         None => USAGE,

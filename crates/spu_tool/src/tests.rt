@@ -88,6 +88,7 @@ fn assembles_links_and_runs(rt: HostRuntime) -> Result<(), Fail> {
     let calls = [
         ("asm one.s one.o", Status::Ok),
         ("link one.elf one.o", Status::Ok),
+        ("map one.elf", Status::Ok),
         ("run one.elf", Status::Ok),
         ("run --steps=2 one.elf", Status::Running),
         (
@@ -111,6 +112,9 @@ fn assembles_links_and_runs(rt: HostRuntime) -> Result<(), Fail> {
         assert_eq!(rt; outside.call(alloc, line)?, status, "at {line}");
     }
     let text = b"image flat\nfunctions 1\nstack 0 of 16384\ntop 176 of 245728
+image flat entry 144
+load 128 48
+func 160 12 0 main
 out 5\nstop 0x2000\nsteps 6
 running\nsteps 2
 out 5\narea a 000aff7f\narea b 000aff7f\nstop 0x2000\nsteps 6
