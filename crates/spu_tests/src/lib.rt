@@ -2,6 +2,12 @@
 #![tactic(auto)]
 
 #[cfg(test)]
+mod assembly;
+#[cfg(test)]
 mod links;
 #[cfg(test)]
+mod loader;
+#[cfg(test)]
 mod texts;
+#[cfg(test)]
+mod tours;
