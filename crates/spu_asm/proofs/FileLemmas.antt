@@ -51,7 +51,7 @@ abbrev pub IsSized : Name × Sighting → Type 0
 IsSized e = e.1.spot ≡ None → e.1.size ≡ 0
 
 small_section : (ss : List Section) (k : ℕ) (t : Section) → All IsValidSection ss → slice_get ss k ≡ Some t → t.size ≤ 262144
-small_section ss k t v at = (subst IsValidSection (get_or_from_slice_get ss k t t at) (All-get_or IsValidSection ss k t (slice_get_within ss k t at) v)).small
+small_section ss k t v at = (subst IsValidSection (get_or_from_slice_get ss k t t at) (All-get_or IsValidSection ss k t (slice_get_within ss k t at) v)).formed.small
 
 module _ (c : Cursor) (v : IsValid (object_at c)) where
   small_symbol : (e : Name × Sighting) → IsValidSymbol (object_at c).sections (symbol_at c.sections e) → IsSized e → is_small e ≡ true

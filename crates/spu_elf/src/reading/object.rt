@@ -7,7 +7,7 @@ ghost use Rattle.spu_elf.specs.Bounds.{Lies, IsNear, IsWithin};
 ghost use Rattle.spu_elf.specs.Checks.{Names, each, ◌then_check◌};
 ghost use Rattle.spu_elf.specs.Reading.{bytes_of, name_of, keeps, number_of, section_kind, section_of, keeps_symbol, symbol_kind, symbol_place, symbol_of, reloc_kind, reloc_symbol, reloc_places, reloc_at, relocs_of, relocs_for, relocs, symbols_header, symbol_numbers, reloc_tables, section_names, symbol_names, section_numbers, entries, entry_checks, table_checks, object_with, no_object, object_in, object_fault, version_check, is_blank, headers, header_or};
 ghost use Rattle.spu_elf.specs.Validity.{IsValid};
-ghost use Rattle.spu_elf.specs.WellFormed.{IsWellFormed};
+ghost use Rattle.spu_elf.specs.WellFormed.{IsWellFormed, IsAsRead};
 ghost use Rattle.spu_elf.specs.declared.faults.ElfFault.TheVariants.{Fault};
 ghost use Rattle.spu_elf.specs.declared.faults.ElfKind.{ElfKind};
 ghost use Rattle.spu_word.specs.declared.limits.TheConstants.{MAX_FILE_SIZE, MAX_SECTIONS};
@@ -437,6 +437,7 @@ pub fn read_object(alloc: Global, bytes: &[u8]) -> Result<Object, ElfFault>
     ensures checks { Names result (object_fault bytes.now) }
     ensures value { IfOk result (λ o. o ≡ object_in bytes.now) }
     ensures well_formed { IfOk result IsWellFormed }
+    ensures as_read { IfOk result IsAsRead }
 {
     read(alloc, bytes)
 }
