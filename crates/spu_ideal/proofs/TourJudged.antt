@@ -11,7 +11,6 @@ use Rattle.spu_isa.specs.declared.operation.Op.TheVariants as op
 use Rattle.spu_isa.specs.declared.operation.Kind.{Kind}
 use Rattle.spu_isa.specs.declared.operation.Kind.TheVariants as kind
 use Rattle.spu_isa.specs.Table.{InRange, row_of}
-use Rattle.spu_elf.specs.Validity.{IsName}
 use Rattle.spu_lift.specs.declared.program.CodeSection.{CodeSection}
 use Rattle.spu_lift.specs.declared.program.Function.{Function}
 use Rattle.spu_lift.specs.declared.program.Label.TheVariants.{Fun}
@@ -21,8 +20,8 @@ use Rattle.spu_lift.specs.declared.program.SymInst.{SymInst}
 use Rattle.spu_lift.specs.declared.program.WordLabel.{WordLabel}
 use Rattle.spu_lift.specs.Places.{instruction_at, taken_places, kind_of, Writes}
 use Rattle.spu_lift.specs.WellFormed.{IsRising, IsCallee, IsTakenTarget, needs_operand, IsOperand, IsInstruction, IsFunction, IsPart, AreApart, IsWellFormed}
-use Rattle.spu_lift.proofs.FirstFormed.{lqr_formed, brsl_formed, stop_formed}
-use Rattle.spu_lift.proofs.FirstValid.{main_is_name}
+use Rattle.spu_lift.proofs.StartFormed.{lqr_formed, brsl_formed, stop_formed}
+use Rattle.spu_lift.proofs.WrittenNames.{name_written}
 use Rattle.spu_frame.specs.Walks.{goes_on, Follows, IsKnownWrite, AddsImmediate, Adds, IsWalk, IsDepth, Reaches}
 use Rattle.spu_frame.specs.Frames.{IsExit, IsDepthInRange, IsDepthAt, AreGood, IsFrame}
 use Rattle.spu_frame.proofs.Walks.{same_instruction, reaches_next, reaches_start, adds_none}
@@ -466,25 +465,13 @@ acyclic r = apart_on (functions_on r.last r.edges) r.i r.j r.apart r.within r.sa
 
 -- ---- the program is well formed
 
-abbrev Printed : ℕ → Type 0
-Printed c = (33 ≤ c) × (c ≤ 126)
-
-helper_is_name : IsName (codes "helper")
-helper_is_name = record {
-  some = lit< tt;
-  short = lit< tt;
-  printed = All-cons Printed 104 (101 ∷ 108 ∷ 112 ∷ 101 ∷ 114 ∷ []) (lit≤ tt, lit≤ tt) (All-cons Printed 101 (108 ∷ 112 ∷ 101 ∷ 114 ∷ []) (lit≤ tt, lit≤ tt)
-      (All-cons Printed 108 (112 ∷ 101 ∷ 114 ∷ []) (lit≤ tt, lit≤ tt) (All-cons Printed 112 (101 ∷ 114 ∷ []) (lit≤ tt, lit≤ tt)
-      (All-cons Printed 101 (114 ∷ []) (lit≤ tt, lit≤ tt) (All-cons Printed 114 [] (lit≤ tt, lit≤ tt) (All-nil Printed))))));
-}
-
 abbrev text : CodeSection
 text = record { name = codes ".text"; size = 72 }
 
 function_in : (f : ℕ) (g : Function) → f ≢ 0 → slice_get tours.functions f ≡ Some g → IsFunction tours g
 function_in zero g n e = absurd (n refl)
-function_in (suc zero) g n e = subst (IsFunction tours) (the_one _ g e) (record { named = main_is_name; some = lit≤ tt; section = text; there = refl; aligned = refl; fits = lit≤ tt })
-function_in (suc (suc zero)) g n e = subst (IsFunction tours) (the_one _ g e) (record { named = helper_is_name; some = lit≤ tt; section = text; there = refl; aligned = refl; fits = lit≤ tt })
+function_in (suc zero) g n e = subst (IsFunction tours) (the_one _ g e) (record { named = name_written (codes "main") (lit< tt) (lit< tt) refl; some = lit≤ tt; section = text; there = refl; aligned = refl; fits = lit≤ tt })
+function_in (suc (suc zero)) g n e = subst (IsFunction tours) (the_one _ g e) (record { named = name_written (codes "helper") (lit< tt) (lit< tt) refl; some = lit≤ tt; section = text; there = refl; aligned = refl; fits = lit≤ tt })
 function_in (suc (suc (suc f))) g n e = absurd cc
 
 apart_two : (g h g' h' : Function) → g ≡ g' → h ≡ h' → AreApart g h → AreApart g' h'

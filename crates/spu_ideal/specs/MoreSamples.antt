@@ -9,9 +9,8 @@ use Rattle.spu_lift.specs.declared.program.Operand.TheVariants as operand
 use Rattle.spu_lift.specs.declared.program.SymInst.{SymInst}
 use Rattle.spu_lift.specs.declared.program.Function.{Function}
 use Rattle.spu_lift.specs.declared.program.Prog.{Prog}
-use Rattle.spu_lift.specs.First.{main_function}
 use Rattle.spu_lift.specs.StartCode.{start_code}
-use Rattle.spu_ideal.specs.Samples.{of_main, with_fields, with_operand, load_immediate, write_channel, read_channel, go_back}
+use Rattle.spu_ideal.specs.Samples.{main_function, of_main, with_fields, with_operand, load_immediate, write_channel, read_channel, go_back}
 
 -- it returns where register 10 is zero: biz $10,$0
 abbrev pub helper : ℕ → Function

@@ -1,5 +1,6 @@
 -- Programs on which the symbolic machine is tried: for each kind of instruction, for transfers, and for each reason to leave.
-use Rattle.std.specs.Prelude.{ℕ, ◌*◌, ◌==◌, if◌then◌else◌, false, List, [], ◌∷◌, length, codes, ℤ, pos, negsuc}
+use Rattle.std.specs.Prelude.{ℕ, ◌*◌, ◌==◌, if◌then◌else◌, false, true, List, [], ◌∷◌, length, codes, ℤ, pos, negsuc}
+use Rattle.spu_word.specs.declared.limits.TheConstants.{DATA_START, WORD_SIZE}
 use Rattle.spu_word.specs.declared.load.Inputs.{Inputs}
 use Rattle.spu_isa.specs.declared.operation.Op.{Op}
 use Rattle.spu_isa.specs.declared.operation.Op.TheVariants as op
@@ -7,8 +8,8 @@ use Rattle.spu_lift.specs.declared.program.Label.TheVariants.{Fun, Place}
 use Rattle.spu_lift.specs.declared.program.Operand.{Operand}
 use Rattle.spu_lift.specs.declared.program.Operand.TheVariants as operand
 use Rattle.spu_lift.specs.declared.program.SymInst.{SymInst}
+use Rattle.spu_lift.specs.declared.program.Function.{Function}
 use Rattle.spu_lift.specs.declared.program.Prog.{Prog}
-use Rattle.spu_lift.specs.First.{first_program, main_function}
 use Rattle.spu_lift.specs.StartCode.{start_code}
 
 -- no mail and no areas
@@ -34,9 +35,22 @@ read_channel rt channel = with_fields op.Rdch rt channel 0 (pos 0)
 abbrev pub go_back : SymInst
 go_back = with_fields op.Bi 0 0 0 (pos 0)
 
--- a program of main alone
+-- main, at the start of its section, with no place whose address is taken
+abbrev pub main_function : List SymInst → Function
+main_function code = record { name = codes "main"; global = true; section = 0; offset = 0; code = code; taken = [] }
+
+-- a program of main alone, without data
 abbrev pub of_main : List SymInst → Prog
-of_main code = first_program (codes ".text") (4 * length code) code
+of_main code = record {
+  functions = start_code DATA_START 1 ∷ main_function code ∷ [];
+  code = record { name = codes ".text"; size = WORD_SIZE * length code } ∷ [];
+  parts = [];
+  taken = [];
+  entry = 1;
+  ears = [];
+  globals = [];
+  data_end = DATA_START;
+}
 
 -- ---- one function
 

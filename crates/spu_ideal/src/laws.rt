@@ -6,9 +6,6 @@ ghost use Rattle.spu_word.specs.declared.load.Inputs.{Inputs};
 ghost use Rattle.spu_lift.specs.declared.program.Prog.{Prog};
 ghost use Rattle.spu_lift.specs.declared.program.SymInst.{SymInst};
 ghost use Rattle.spu_lift.specs.Places.{instruction_at, link_register, stack_pointer};
-ghost use Rattle.spu_elf.specs.declared.objects.Object.{Object};
-ghost use Rattle.spu_lift.specs.FirstForm.{IsFirst};
-ghost use Rattle.spu_lift.specs.First.{StandsFor};
 ghost use Rattle.spu_lift.specs.WellFormed.{IsWellFormed};
 ghost use Rattle.spu_judge.specs.declared.outcome.Judged.{Judged};
 ghost use Rattle.spu_judge.specs.Answers.{IsJudgement};
@@ -63,11 +60,6 @@ pub fn open_calls_are_few()
 /// area, and so do the transfers that wait.
 pub fn run_is_high()
     ensures { (p : Prog) (frames : ℕ → ℕ) (need : ℕ) → IsJudged p frames need → (limit : ℕ) → need ≤ limit → (inputs : Inputs) (n : ℕ) → IsHigh p frames limit (run p frames limit inputs n) }
-{}
-
-/// A program of an object of the first form is judged, with frames of no bytes and no need.
-pub fn first_programs_are_judged()
-    ensures { (o : Object) (p : Prog) → IsFirst o → StandsFor o p → IsJudged p (λ f. 0) 0 }
 {}
 
 /// A program with an instruction of each kind is judged: one that has a frame, a call, a pointer call, and data with a label.

@@ -5,7 +5,6 @@ use Rattle.std.specs.List.{Contains}
 use Rattle.std.proofs.lemmas.Option.{slice_get_within}
 use Rattle.std.proofs.lemmas.List.Elements.{All-nil, All-cons}
 use Rattle.spu_word.specs.declared.limits.TheConstants.{MAX_SECTION_SIZE}
-use Rattle.spu_elf.specs.Validity.{IsName}
 use Rattle.spu_lift.specs.declared.program.CodeSection.{CodeSection}
 use Rattle.spu_lift.specs.declared.program.Function.{Function}
 use Rattle.spu_lift.specs.declared.program.Part.{Part}
@@ -13,25 +12,13 @@ use Rattle.spu_lift.specs.declared.program.Prog.{Prog}
 use Rattle.spu_lift.specs.declared.program.SymInst.{SymInst}
 use Rattle.spu_lift.specs.Places.{instruction_at, taken_places}
 use Rattle.spu_lift.specs.WellFormed.{IsRising, IsCallee, IsInstruction, IsFunction, IsPart, AreApart, IsWellFormed}
-use Rattle.spu_lift.proofs.FirstFormed.{lqr_formed, brsl_formed, stop_formed}
-use Rattle.spu_lift.proofs.FirstValid.{main_is_name}
+use Rattle.spu_lift.proofs.StartFormed.{lqr_formed, brsl_formed, stop_formed}
+use Rattle.spu_lift.proofs.WrittenNames.{name_written}
 use Rattle.spu_plan.specs.declared.plan.Plan.{Plan}
 use Rattle.spu_plan.specs.Plans.{flat_plan}
 use Rattle.spu_layout.specs.Placing.{FitsFlat, section_sizes}
 use Rattle.spu_layout.specs.Planned.{Fits}
 use Rattle.spu_layout.specs.Samples.{nop, sample}
-
-abbrev Printed : ℕ → Type 0
-Printed c = (33 ≤ c) × (c ≤ 126)
-
-first_is_name : IsName (codes "first")
-first_is_name = record { some = lit< tt; short = lit< tt; printed = All-cons Printed 102 (105 ∷ 114 ∷ 115 ∷ 116 ∷ []) (lit≤ tt, lit≤ tt) (All-cons Printed 105 (114 ∷ 115 ∷ 116 ∷ []) (lit≤ tt, lit≤ tt) (All-cons Printed 114 (115 ∷ 116 ∷ []) (lit≤ tt, lit≤ tt) (All-cons Printed 115 (116 ∷ []) (lit≤ tt, lit≤ tt) (All-cons Printed 116 ([]) (lit≤ tt, lit≤ tt) (All-nil Printed))))) }
-
-second_is_name : IsName (codes "second")
-second_is_name = record { some = lit< tt; short = lit< tt; printed = All-cons Printed 115 (101 ∷ 99 ∷ 111 ∷ 110 ∷ 100 ∷ []) (lit≤ tt, lit≤ tt) (All-cons Printed 101 (99 ∷ 111 ∷ 110 ∷ 100 ∷ []) (lit≤ tt, lit≤ tt) (All-cons Printed 99 (111 ∷ 110 ∷ 100 ∷ []) (lit≤ tt, lit≤ tt) (All-cons Printed 111 (110 ∷ 100 ∷ []) (lit≤ tt, lit≤ tt) (All-cons Printed 110 (100 ∷ []) (lit≤ tt, lit≤ tt) (All-cons Printed 100 ([]) (lit≤ tt, lit≤ tt) (All-nil Printed)))))) }
-
-third_is_name : IsName (codes "third")
-third_is_name = record { some = lit< tt; short = lit< tt; printed = All-cons Printed 116 (104 ∷ 105 ∷ 114 ∷ 100 ∷ []) (lit≤ tt, lit≤ tt) (All-cons Printed 104 (105 ∷ 114 ∷ 100 ∷ []) (lit≤ tt, lit≤ tt) (All-cons Printed 105 (114 ∷ 100 ∷ []) (lit≤ tt, lit≤ tt) (All-cons Printed 114 (100 ∷ []) (lit≤ tt, lit≤ tt) (All-cons Printed 100 ([]) (lit≤ tt, lit≤ tt) (All-nil Printed))))) }
 
 the_one : {A : Type 0} (x y : A) → Some x ≡ Some y → x ≡ y
 the_one x y e = cc
@@ -73,10 +60,10 @@ formed_at (suc (suc (suc (suc (suc f))))) i x e = absurd cc
 
 function_at : (f : ℕ) (g : Function) → f ≢ 0 → slice_get sample.functions f ≡ Some g → IsFunction sample g
 function_at zero g n e = absurd (n refl)
-function_at (suc zero) g n e = subst (IsFunction sample) (the_one _ g e) (record { named = main_is_name; some = lit≤ tt; section = record { name = codes "a"; size = 20 }; there = refl; aligned = refl; fits = lit≤ tt })
-function_at (suc (suc zero)) g n e = subst (IsFunction sample) (the_one _ g e) (record { named = first_is_name; some = lit≤ tt; section = record { name = codes "a"; size = 20 }; there = refl; aligned = refl; fits = lit≤ tt })
-function_at (suc (suc (suc zero))) g n e = subst (IsFunction sample) (the_one _ g e) (record { named = second_is_name; some = lit≤ tt; section = record { name = codes "b"; size = 8 }; there = refl; aligned = refl; fits = lit≤ tt })
-function_at (suc (suc (suc (suc zero)))) g n e = subst (IsFunction sample) (the_one _ g e) (record { named = third_is_name; some = lit≤ tt; section = record { name = codes "c"; size = 16 }; there = refl; aligned = refl; fits = lit≤ tt })
+function_at (suc zero) g n e = subst (IsFunction sample) (the_one _ g e) (record { named = name_written (codes "main") (lit< tt) (lit< tt) refl; some = lit≤ tt; section = record { name = codes "a"; size = 20 }; there = refl; aligned = refl; fits = lit≤ tt })
+function_at (suc (suc zero)) g n e = subst (IsFunction sample) (the_one _ g e) (record { named = name_written (codes "first") (lit< tt) (lit< tt) refl; some = lit≤ tt; section = record { name = codes "a"; size = 20 }; there = refl; aligned = refl; fits = lit≤ tt })
+function_at (suc (suc (suc zero))) g n e = subst (IsFunction sample) (the_one _ g e) (record { named = name_written (codes "second") (lit< tt) (lit< tt) refl; some = lit≤ tt; section = record { name = codes "b"; size = 8 }; there = refl; aligned = refl; fits = lit≤ tt })
+function_at (suc (suc (suc (suc zero)))) g n e = subst (IsFunction sample) (the_one _ g e) (record { named = name_written (codes "third") (lit< tt) (lit< tt) refl; some = lit≤ tt; section = record { name = codes "c"; size = 16 }; there = refl; aligned = refl; fits = lit≤ tt })
 function_at (suc (suc (suc (suc (suc f))))) g n e = absurd cc
 
 apart_two : (g h g' h' : Function) → g ≡ g' → h ≡ h' → AreApart g h → AreApart g' h'

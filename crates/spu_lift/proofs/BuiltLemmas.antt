@@ -1,5 +1,5 @@
 -- What is built of a program, one element after another.
-use Rattle.std.proofs.Common.{◌≡◌, ◌≢◌, ℕ, zero, suc, ◌+◌, ◌-◌, ◌*◌, ◌/◌, ◌%◌, ◌^◌, ◌<◌, ◌≤◌, ◌⊎◌, Bool, true, false, List, [], ◌∷◌, ◌++◌, length, take, drop, get_or, Option, Some, None, slice_get, append-nil, length-append, refl, sym, ap, subst, ◌∙◌, inl, inr, arith}
+use Rattle.std.proofs.Common.{◌≡◌, ℕ, ◌+◌, ◌^◌, ◌<◌, ◌≤◌, Bool, List, [], ◌∷◌, ◌++◌, length, take, get_or, Option, Some, None, slice_get, append-nil, length-append, refl, sym, ap, subst, ◌∙◌, inl, inr, arith}
 use Rattle.std.specs.Option.{option_map}
 use Rattle.std.specs.List.{enumerate_from, filter_map, flat_map}
 use Rattle.std.proofs.lemmas.Grind.{flat_map-append}
@@ -11,12 +11,12 @@ use Rattle.spu_elf.specs.declared.objects.Object.{Object}
 use Rattle.spu_lift.specs.declared.sections.Placing.{Placing}
 use Rattle.spu_lift.specs.declared.sections.Placing.TheVariants as placings
 use Rattle.spu_lift.specs.declared.sections.Sections.{Sections}
-use Rattle.spu_lift.specs.Tables.{all_sections, code_number, data_address, end_of, holds_code, holds_data, section_at}
+use Rattle.spu_lift.specs.Tables.{code_number, data_address, holds_code, holds_data, section_at}
 use Rattle.spu_lift.specs.Lifted.{of_symbols}
 use Rattle.spu_lift.specs.declared.functions.FunctionSymbol.{FunctionSymbol}
 use Rattle.spu_lift.specs.declared.program.SymInst.{SymInst}
 use Rattle.spu_lift.specs.declared.program.Function.{Function}
-use Rattle.spu_lift.specs.declared.taken.Taken.{Taken}
+use Rattle.spu_lift.specs.declared.functions.Place.{Place}
 use Rattle.spu_lift.specs.FunctionTables.{IsLiftedIn}
 use Rattle.spu_lift.specs.TakenPlaces.{spot_in}
 use Rattle.spu_lift.specs.Built.{AreFunctionsBuilt, AreInstructions, IsFunctionBuilt}
@@ -85,9 +85,9 @@ instructions_more os fs n f w old new x before lifted pushed = subst (AreInstruc
 -- ---- functions
 
 -- one more function
-pub functions_more : (os : List Object) (fs : List FunctionSymbol) (t : Taken) (data_end entry i : ℕ) (old new : List Function) (f : FunctionSymbol) (g : Function) → AreFunctionsBuilt os fs t data_end entry i old → slice_get fs i ≡ Some f
-    → IsFunctionBuilt os fs t (i + 1) f g → new ≡ old ++ g ∷ [] → AreFunctionsBuilt os fs t data_end entry (i + 1) new
-functions_more os fs t data_end entry i old new f g before at built pushed = subst (AreFunctionsBuilt os fs t data_end entry (i + 1)) (sym pushed) (record {
+pub functions_more : (os : List Object) (fs : List FunctionSymbol) (is_taken : Place → Bool) (data_end entry i : ℕ) (old new : List Function) (f : FunctionSymbol) (g : Function) → AreFunctionsBuilt os fs is_taken data_end entry i old → slice_get fs i ≡ Some f
+    → IsFunctionBuilt os fs is_taken (i + 1) f g → new ≡ old ++ g ∷ [] → AreFunctionsBuilt os fs is_taken data_end entry (i + 1) new
+functions_more os fs is_taken data_end entry i old new f g before at built pushed = subst (AreFunctionsBuilt os fs is_taken data_end entry (i + 1)) (sym pushed) (record {
   start = (let count = before.count in at_front old (g ∷ []) 0 (omega (arith, count)) ∙ before.start);
   count = (let count = before.count in let long = length-append old (g ∷ []) in omega (arith, count, long));
   each = λ j e k less there here. (let count = before.count in elim (cases_lt j i) [
@@ -97,6 +97,6 @@ functions_more os fs t data_end entry i old new f g before at built pushed = sub
         let symbol : f ≡ e = at_one (slice_get fs i) f e at (ap (slice_get fs) last ∙ there) in
         let index : length old ≡ j + 1 = omega (arith, last, count) in
         let function : g ≡ k = at_one (slice_get (old ++ g ∷ []) (length old)) g k (at_joint old g []) (ap (slice_get (old ++ g ∷ [])) index ∙ here) in
-        subst (λ m. IsFunctionBuilt os fs t (m + 1) e k) last (subst (λ (x : FunctionSymbol). IsFunctionBuilt os fs t (i + 1) x k) symbol (subst (λ (x : Function). IsFunctionBuilt os fs t (i + 1) f x) function built))
+        subst (λ m. IsFunctionBuilt os fs is_taken (m + 1) e k) last (subst (λ (x : FunctionSymbol). IsFunctionBuilt os fs is_taken (i + 1) x k) symbol (subst (λ (x : Function). IsFunctionBuilt os fs is_taken (i + 1) f x) function built))
   ]);
 })

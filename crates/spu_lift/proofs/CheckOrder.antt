@@ -47,9 +47,6 @@ one_more_absent kind from os entry absent none = record {
 pub all_absent_from : (from : ℕ) (os : List Object) (entry : List ℕ) → AreAbsent from 14 os entry → AreAbsentFrom from os entry
 all_absent_from from os entry absent kind behind = let most = (bounds kind).1 in absent.each kind behind (omega arith)
 
-pub least_from : (kind : LiftKind) (from : ℕ) (os : List Object) (entry : List ℕ) (fault : LiftFault) → from ≤ kind_number kind → AreAbsent from (kind_number kind) os entry → IsAnswer (Shows kind os entry) fault → IsLeastFrom from os entry fault
-least_from kind from os entry fault number absent answer = record { kind = kind; number = number; here = answer; least = absent.each }
-
 -- ---- of any entry
 
 -- the entry matters to the missing entry alone

@@ -24,14 +24,6 @@ use Rattle.spu_lift.proofs.FirstPlaces.{Begins, nowhere_past, told_first}
 use Rattle.spu_lift.proofs.PlaceLemmas.{in_both, in_parts}
 use Rattle.spu_lift.proofs.NumberedFunctions.{aligned_function}
 
--- ---- words from one to another
-
-pub one_filler_more : (bytes : List ℕ) (from i : ℕ) → AreFillers bytes from i → IsFillerAt bytes i → AreFillers bytes from (i + 1)
-one_filler_more bytes from i fillers here j behind less = elim (cases_lt j i) [
-  | inl before ↦ fillers j behind before
-  | inr at ↦ let same : i ≡ j = omega arith in subst (IsFillerAt bytes) same here
-]
-
 -- ---- words outside of functions
 
 -- what is known when the first functions have been passed
@@ -39,9 +31,6 @@ pub record IsPassed (bytes : List ℕ) (fs : List FunctionSymbol) (index covered
   pub words : AreCovered bytes fs covered
   pub ends : (j : ℕ) (f : FunctionSymbol) → j < index → slice_get fs j ≡ Some f → f.offset + f.size ≤ WORD_SIZE * covered
   pub inside : WORD_SIZE * covered ≤ length bytes
-
-pub none_passed : (bytes : List ℕ) (fs : List FunctionSymbol) → IsPassed bytes fs 0 0
-none_passed bytes fs = record { words = λ i less. absurd (omega arith); ends = λ j f less there. absurd (omega arith); inside = omega arith }
 
 pub one_passed : (bytes : List ℕ) (fs : List FunctionSymbol) (index covered next : ℕ) (f : FunctionSymbol) → AreLaidOut (length bytes) fs → IsPassed bytes fs index covered → slice_get fs index ≡ Some f
     → AreFillers bytes covered (f.offset / WORD_SIZE) → next ≡ max covered ((f.offset + f.size) / WORD_SIZE) → IsPassed bytes fs (index + 1) next

@@ -6,7 +6,7 @@ use Rattle.std.proofs.lemmas.Bool.{eqb-true, eq-eqb}
 use Rattle.std.proofs.lemmas.Bool.Decides.{nat_tests}
 use Rattle.std.proofs.lemmas.Option.{cond_some, none-some, same_Some, slice_get_within}
 use Rattle.spu_word.specs.declared.limits.TheConstants.{MAX_SECTION_SIZE}
-use Rattle.spu_elf.specs.Validity.{IsPlaced, IsValidSection, bytes_len}
+use Rattle.spu_elf.specs.Validity.{EndsIn, IsWellFormedSection, bytes_len}
 use Rattle.spu_elf.specs.WellFormed.{IsWellFormed, IsWellFormedSymbol}
 use Rattle.spu_elf.specs.declared.objects.SecKind.{SecKind}
 use Rattle.spu_elf.specs.declared.objects.SecKind.TheVariants as kinds
@@ -146,17 +146,17 @@ pub record Fits (x : Extent) (t : Section) : Type 0 where
 filled_code : (k : SecKind) (size : ℕ) → k ≡ kinds.Code → bytes_len k size ≡ size
 filled_code k size e = ap (λ x. bytes_len x size) e
 
--- a section is valid, and so small
-pub valid_section : (os : List Object) (n k : ℕ) (t : Section) → All IsWellFormed os → section_at os n k ≡ Some t → IsValidSection t
+-- a section is well formed, and so small
+pub valid_section : (os : List Object) (n k : ℕ) (t : Section) → All IsWellFormed os → section_at os n k ≡ Some t → IsWellFormedSection t
 valid_section os n k t formed at = by (slice_get os n) refl
   where
-    by : (o : Option Object) → slice_get os n ≡ o → IsValidSection t
+    by : (o : Option Object) → slice_get os n ≡ o → IsWellFormedSection t
     by None none = absurd (none-some t (sym (ap (λ x. slice_get (option_map_or (λ (y : Object). y.sections) x ([])) k) none) ∙ at))
     by (Some o) there =
         let object : IsWellFormed o = all_at IsWellFormed os n o formed there in
-        all_at IsValidSection o.sections k t object.sections (ap (λ ts. slice_get ts k) (sym (object_at os n o there).sections) ∙ at)
+        all_at IsWellFormedSection o.sections k t object.sections (ap (λ ts. slice_get ts k) (sym (object_at os n o there).sections) ∙ at)
 
-pub few_bytes : (t : Section) → IsValidSection t → length t.bytes ≤ MAX_SECTION_SIZE
+pub few_bytes : (t : Section) → IsWellFormedSection t → length t.bytes ≤ MAX_SECTION_SIZE
 few_bytes t valid = by t.kind valid.filled valid.small
   where
     by : (k : SecKind) → length t.bytes ≡ bytes_len k t.size → t.size ≤ MAX_SECTION_SIZE → length t.bytes ≤ MAX_SECTION_SIZE
@@ -165,7 +165,7 @@ few_bytes t valid = by t.kind valid.filled valid.small
     by kinds.Vars filled small = omega arith
     by kinds.Zero filled small = omega arith
 
-pub bytes_of_code : (t : Section) → IsValidSection t → t.kind ≡ kinds.Code → length t.bytes ≡ t.size
+pub bytes_of_code : (t : Section) → IsWellFormedSection t → t.kind ≡ kinds.Code → length t.bytes ≡ t.size
 bytes_of_code t valid code = valid.filled ∙ filled_code t.kind t.size code
 
 pub extent_fits : (os : List Object) → All IsWellFormed os → (x : Extent) (j : ℕ) (s : Symbol) (t : Section) → IsFunctionSymbol os x j s t → Fits x t
@@ -174,10 +174,10 @@ extent_fits os formed x j s t is =
     let o : Object = found.0 in
     let object : IsWellFormed o = all_at IsWellFormed os x.object o formed found.1.there in
     let at : slice_get o.sections x.section ≡ Some t = ap (λ ts. slice_get ts x.section) (sym found.1.sections) ∙ is.section in
-    let valid : IsValidSection t = all_at IsValidSection o.sections x.section t object.sections at in
+    let valid : IsWellFormedSection t = all_at IsWellFormedSection o.sections x.section t object.sections at in
     let symbol : IsWellFormedSymbol o.sections s = all_at (IsWellFormedSymbol o.sections) o.symbols j s object.symbols found.2 in
     let says = covered x s is.covers in
-    let placed : IsPlaced o.sections s (places.Inside x.section) = subst (IsPlaced o.sections s) says.place symbol.placed in
+    let placed : EndsIn o.sections s x.section = symbol.inside x.section says.place in
     let same : placed.0 ≡ t = same_Some placed.0 t (sym placed.1 ∙ at) in
     let ends : s.value + s.size ≤ t.size = subst (λ (u : Section). s.value + s.size ≤ u.size) same placed.2 in
     let value = says.value in

@@ -97,10 +97,6 @@ none_at_all bad xs i all none j y at is =
     let within = slice_get_within xs j y at in
     none j y (omega arith) at is
 
--- the element at an index is the first such
-pub found_first : {X : Type 0} (bad : ℕ → X → Type 0) (xs : List X) (i : ℕ) (x : X) → i < length xs → x ≡ get_or xs i x → bad i x → IsNoneBelow bad xs i → IsFirstIn bad xs i x
-found_first bad xs i x within is such none = record { there = slice_get_read xs (length xs) i x refl within is; such = such; before = none }
-
 -- or isn't such
 pub none_yet : {X : Type 0} (bad : ℕ → X → Type 0) (xs : List X) (i : ℕ) (x : X) → i < length xs → x ≡ get_or xs i x → (bad i x → ⊥) → IsNoneBelow bad xs i → IsNoneBelow bad xs (i + 1)
 none_yet bad xs i x within is good none = none_below_more bad xs i x (slice_get_read xs (length xs) i x refl within is) good none

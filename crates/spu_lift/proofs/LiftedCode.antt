@@ -58,7 +58,7 @@ use Rattle.spu_lift.proofs.SectionNumbers.{numbered_at}
 use Rattle.spu_lift.proofs.DefinitionPlaces.{found_there}
 use Rattle.spu_lift.proofs.OneExtent.{at_one}
 use Rattle.spu_lift.proofs.OneProgram.{AreFixed, function_there}
-use Rattle.spu_lift.proofs.FirstFormed.{brsl_formed, lqr_formed, stop_formed}
+use Rattle.spu_lift.proofs.StartFormed.{brsl_formed, lqr_formed, stop_formed}
 
 no : {A : Type 0} → false ≡ true → A
 no e = absurd (true≢false (sym e))

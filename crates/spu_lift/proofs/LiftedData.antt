@@ -25,7 +25,7 @@ use Rattle.spu_elf.specs.declared.objects.SymPlace.TheVariants as places
 use Rattle.spu_elf.specs.declared.objects.Symbol.{Symbol}
 use Rattle.spu_elf.specs.declared.objects.Reloc.{Reloc}
 use Rattle.spu_elf.specs.declared.objects.Object.{Object}
-use Rattle.spu_elf.specs.Validity.{HoldsWord, IsName, IsPlaced, IsValidSection, bytes_len}
+use Rattle.spu_elf.specs.Validity.{HoldsWord, IsName, EndsIn, IsWellFormedSection, bytes_len}
 use Rattle.spu_elf.specs.WellFormed.{IsWellFormed, IsWellFormedReloc}
 use Rattle.spu_lift.specs.declared.fault.LiftKind.{LiftKind}
 use Rattle.spu_lift.specs.declared.fault.LiftKind.TheVariants.{BadRelocation, DuplicateSymbol, FunctionOverlap, Misaligned, ReservedName}
@@ -505,7 +505,7 @@ module _ (os : List Object) (entry : List ℕ) (p : Prog) (h : IsLiftedFrom os e
         | inr ne ↦ absurd (not_bad os entry n i x t (h.lifted.faultless BadRelocation) there (λ (u, y, is, hint). no_code u (at_one (section_at os n x.section) u t is.section within) is.code) within (inl ne))
       ]
 
-  part_filled : (t : Section) (bytes : List ℕ) → IsValidSection t → length bytes ≡ length t.bytes → (length bytes ≡ t.size) ⊎ (bytes ≡ [])
+  part_filled : (t : Section) (bytes : List ℕ) → IsWellFormedSection t → length bytes ≡ length t.bytes → (length bytes ≡ t.size) ⊎ (bytes ≡ [])
   part_filled t bytes valid count = by t.kind refl
     where
       by : (k : SecKind) → t.kind ≡ k → (length bytes ≡ t.size) ⊎ (bytes ≡ [])
@@ -544,7 +544,7 @@ module _ (os : List Object) (entry : List ℕ) (p : Prog) (h : IsLiftedFrom os e
 
   ends_inside : (n j : ℕ) (s : Symbol) (d : DataPlace) → symbol_at os n j ≡ Some s → (lies : IsInData os n s d) → s.value + s.size ≤ d.section.size
   ends_inside n j s d at lies =
-      let placed : IsPlaced (sections_of os n) s (places.Inside lies.k) = subst (IsPlaced (sections_of os n) s) lies.inside (symbol_formed os n j s h.formed at).placed in
+      let placed : EndsIn (sections_of os n) s lies.k = (symbol_formed os n j s h.formed at).inside lies.k lies.inside in
       let same : placed.0 ≡ d.section = at_one (section_at os n lies.k) placed.0 d.section placed.1 lies.there in
       subst (λ (u : Section). s.value + s.size ≤ u.size) same placed.2
 

@@ -12,7 +12,7 @@ use Rattle.spu_elf.specs.declared.objects.SecKind.TheVariants as kinds
 use Rattle.spu_elf.specs.declared.objects.Section.{Section}
 use Rattle.spu_elf.specs.declared.objects.Symbol.{Symbol}
 use Rattle.spu_elf.specs.declared.objects.Object.{Object}
-use Rattle.spu_elf.specs.Validity.{IsPlaced, IsValidSection}
+use Rattle.spu_elf.specs.Validity.{EndsIn, IsWellFormedSection}
 use Rattle.spu_elf.specs.WellFormed.{IsWellFormed, IsWellFormedSymbol, IsWellFormedReloc}
 use Rattle.spu_elf.specs.declared.objects.Reloc.{Reloc}
 use Rattle.spu_lift.specs.declared.fault.LiftKind.TheVariants.{FunctionOverlap, Misaligned}
@@ -104,10 +104,10 @@ symbol_formed os n j s formed at =
     let these : sections_of os n ≡ o.0.sections = ap (λ p. option_map_or (λ (q : Object). q.sections) p ([])) o.1 in
     subst (λ (ts : List Section). IsWellFormedSymbol ts s) (sym these) (formed_by (IsWellFormedSymbol o.0.sections) o.0.symbols j s its.symbols o.2)
 
-pub section_valid : (os : List Object) (n k : ℕ) (t : Section) → All IsWellFormed os → section_at os n k ≡ Some t → IsValidSection t
+pub section_valid : (os : List Object) (n k : ℕ) (t : Section) → All IsWellFormed os → section_at os n k ≡ Some t → IsWellFormedSection t
 section_valid os n k t formed at =
     let o = object_there os n k t (λ p. p.sections) (slice_get os n) refl at in
-    formed_by IsValidSection o.0.sections k t (formed_by IsWellFormed os n o.0 formed o.1).sections o.2
+    formed_by IsWellFormedSection o.0.sections k t (formed_by IsWellFormed os n o.0 formed o.1).sections o.2
 
 pub reloc_formed : (os : List Object) (n i : ℕ) (r : Reloc) → All IsWellFormed os → reloc_at os n i ≡ Some r → IsWellFormedReloc (sections_of os n) (length (symbols_of os n)) r
 reloc_formed os n i r formed at =
@@ -125,13 +125,13 @@ pub record Lies (os : List Object) (x : Extent) : Type 0 where
   pub code : section.kind ≡ kinds.Code
   pub some : 1 ≤ x.size
   pub ends : x.offset + x.size ≤ section.size
-  pub valid : IsValidSection section
+  pub valid : IsWellFormedSection section
 
 pub extent_lies : (os : List Object) (x : Extent) → All IsWellFormed os → IsExtent os x → Lies os x
 extent_lies os x formed (j, s, t, is) =
     let a = covered x s is.covers in
     let its = symbol_formed os x.object j s formed is.symbol in
-    let placed : IsPlaced (sections_of os x.object) s (places.Inside x.section) = subst (IsPlaced (sections_of os x.object) s) a.place its.placed in
+    let placed : EndsIn (sections_of os x.object) s x.section = its.inside x.section a.place in
     let same : placed.0 ≡ t = at_one (section_at os x.object x.section) placed.0 t placed.1 is.section in
     let value = a.offset in
     let size = a.size in

@@ -12,7 +12,7 @@ use Rattle.std.proofs.lemmas.List.Elements.{recursion_from_All, All-take}
 use Rattle.std.proofs.lemmas.Grind.{flat_map-append}
 use Rattle.std.proofs.lemmas.Option.{slice_get_within}
 use Rattle.spu_word.specs.declared.limits.TheConstants.{DATA_START, MAX_OBJECTS, MAX_SECTIONS, QUAD_SIZE}
-use Rattle.spu_elf.specs.Validity.{IsValidSection}
+use Rattle.spu_elf.specs.Validity.{IsWellFormedSection}
 use Rattle.spu_elf.specs.WellFormed.{IsWellFormed}
 use Rattle.spu_elf.specs.declared.objects.Section.{Section}
 use Rattle.spu_elf.specs.declared.objects.Object.{Object}
@@ -53,7 +53,7 @@ placed_near end t width =
     let below : (end + (m - 1)) / m * m ≤ end + (m - 1) = div-mul-le_self (end + (m - 1)) m in
     omega arith
 
-end_near : (end : ℕ) (t : Section) → IsValidSection t → end_after end t ≤ end + 2 ^ 33
+end_near : (end : ℕ) (t : Section) → IsWellFormedSection t → end_after end t ≤ end + 2 ^ 33
 end_near end t valid =
     let near = placed_near end t valid.width in
     let small = valid.small in
@@ -62,7 +62,7 @@ end_near end t valid =
 count_near : (count : ℕ) (t : Section) → count_after count t ≤ count + 1
 count_near count t = cond_both (holds_code t) (count + 1) count (λ c. c ≤ count + 1) (λ is. omega arith) (λ not. omega arith)
 
-pub ends_near : (end : ℕ) (ts : List Section) → AllByRecursion IsValidSection ts → fold end_after end ts ≤ end + length ts * 2 ^ 33
+pub ends_near : (end : ℕ) (ts : List Section) → AllByRecursion IsWellFormedSection ts → fold end_after end ts ≤ end + length ts * 2 ^ 33
 ends_near end [] valid = omega arith
 ends_near end (t ∷ ts) valid =
     let here = end_near end t valid.0 in
@@ -135,11 +135,11 @@ sections_few (o ∷ os) formed =
     let sum : length (o.sections ++ all_sections os) ≡ length o.sections + length (all_sections os) = length-append o.sections (all_sections os) in
     omega arith
 
-all_valid : (os : List Object) → AllByRecursion IsWellFormed os → AllByRecursion IsValidSection (all_sections os)
+all_valid : (os : List Object) → AllByRecursion IsWellFormed os → AllByRecursion IsWellFormedSection (all_sections os)
 all_valid [] formed = tt
-all_valid (o ∷ os) formed = both o.sections (all_sections os) (recursion_from_All IsValidSection o.sections formed.0.sections) (all_valid os formed.1)
+all_valid (o ∷ os) formed = both o.sections (all_sections os) (recursion_from_All IsWellFormedSection o.sections formed.0.sections) (all_valid os formed.1)
   where
-    both : (xs ys : List Section) → AllByRecursion IsValidSection xs → AllByRecursion IsValidSection ys → AllByRecursion IsValidSection (xs ++ ys)
+    both : (xs ys : List Section) → AllByRecursion IsWellFormedSection xs → AllByRecursion IsWellFormedSection ys → AllByRecursion IsWellFormedSection (xs ++ ys)
     both [] ys h k = k
     both (x ∷ xs) ys h k = (h.0, both xs ys h.1 k)
 
@@ -230,11 +230,11 @@ all_placed os i s whole few formed placed =
       small = omega arith;
     }
 
-pub room_for_one : (from count : ℕ) (ts : List Section) (i : ℕ) (ps : List Placing) (end last : ℕ) → HasRoom from count (length ts) → All IsValidSection ts → i < length ts
+pub room_for_one : (from count : ℕ) (ts : List Section) (i : ℕ) (ps : List Placing) (end last : ℕ) → HasRoom from count (length ts) → All IsWellFormedSection ts → i < length ts
     → ArePlacedFrom from count (take i ts) ps end last → HasRoom end last 1
 room_for_one from count ts i ps end last room valid within placed =
     let size = length-take-le i ts (omega arith) in
-    let ends = ends_near from (take i ts) (recursion_from_All IsValidSection (take i ts) (All-take IsValidSection i ts valid)) in
+    let ends = ends_near from (take i ts) (recursion_from_All IsWellFormedSection (take i ts) (All-take IsWellFormedSection i ts valid)) in
     let counts = counts_near count (take i ts) in
     let these = placed.ends in
     let those = placed.counts in

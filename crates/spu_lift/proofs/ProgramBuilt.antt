@@ -1,12 +1,12 @@
 -- What is built of objects without a fault is their program.
-use Rattle.std.proofs.Common.{◌≡◌, ◌≢◌, ℕ, zero, suc, ◌+◌, ◌-◌, ◌*◌, ◌/◌, ◌%◌, ◌^◌, ◌<◌, ◌≤◌, ◌⊎◌, ◌↔◌, Bool, true, false, not, ◌==◌, List, [], ◌∷◌, ◌++◌, length, take, drop, map, Option, Some, None, slice_get, ℤ, pos, refl, sym, ap, subst, ◌∙◌, inl, inr, arith, append-nil}
+use Rattle.std.proofs.Common.{◌≡◌, ◌≢◌, ℕ, zero, suc, ◌+◌, ◌-◌, ◌*◌, ◌/◌, ◌%◌, ◌<◌, ◌≤◌, ◌⊎◌, ◌↔◌, Bool, true, false, not, ◌==◌, List, [], length, take, drop, map, Option, Some, None, slice_get, pos, refl, sym, ap, subst, ◌∙◌, inl, inr, arith, append-nil}
 use Rattle.std.specs.Prelude.{All, filter}
 use Rattle.std.specs.List.{Contains}
 use Rattle.std.specs.Option.{option_map_or}
 use Rattle.std.proofs.lemmas.Bool.{and_from, cases_lt, eq-eqb, not-true}
 use Rattle.std.proofs.lemmas.List.{length-map, take_all}
 use Rattle.std.proofs.lemmas.Option.{slice_get_within}
-use Rattle.spu_word.specs.declared.limits.TheConstants.{QUAD_SIZE, WORD_SIZE}
+use Rattle.spu_word.specs.declared.limits.TheConstants.{WORD_SIZE}
 use Rattle.spu_word.proofs.Places.{get_some, nat_equal}
 use Rattle.spu_elf.specs.declared.objects.SecKind.{SecKind}
 use Rattle.spu_elf.specs.declared.objects.SecKind.TheVariants as kinds
@@ -20,7 +20,6 @@ use Rattle.spu_lift.specs.declared.fault.LiftKind.TheVariants.{BadRelocation, Fu
 use Rattle.spu_lift.specs.declared.relocations.Spot.{Spot}
 use Rattle.spu_lift.specs.declared.functions.FunctionSymbol.{FunctionSymbol}
 use Rattle.spu_lift.specs.declared.functions.Place.{Place}
-use Rattle.spu_lift.specs.declared.taken.Taken.{Taken}
 use Rattle.spu_lift.specs.declared.program.Label.{Label}
 use Rattle.spu_lift.specs.declared.program.Label.TheVariants as labels
 use Rattle.spu_lift.specs.declared.program.Operand.TheVariants as operand
@@ -32,18 +31,18 @@ use Rattle.spu_lift.specs.declared.program.Prog.{Prog}
 use Rattle.spu_lift.specs.StartCode.{start_code}
 use Rattle.spu_lift.specs.Places.{instruction_at, place_in}
 use Rattle.spu_lift.specs.WellFormed.{IsRising}
-use Rattle.spu_lift.specs.Tables.{all_sections, code_number, data_address, data_end_of, holds_code, holds_data, is_code, reloc_at, reloc_on, section_at, sections_before}
+use Rattle.spu_lift.specs.Tables.{all_sections, data_address, data_end_of, holds_code, holds_data, is_code, reloc_at, reloc_on, section_at}
 use Rattle.spu_lift.specs.Extents.{Extent, IsNumbering, extent_of, label_of}
 use Rattle.spu_lift.specs.Meanings.{is_hint, meaning_of}
-use Rattle.spu_lift.specs.Lifted.{AreTaken, HasPart, IsEntry, IsFunctionOf, IsLabelOf, IsLiftedWord, IsPartOf, IsProgramOf, IsWordLabel, Stands, StandsInCode, StandsInData, ear_of, global_of, of_symbols, word_of_data}
+use Rattle.spu_lift.specs.Lifted.{AreTaken, HasPart, IsFunctionOf, IsLabelOf, IsLiftedWord, IsPartOf, IsProgramOf, IsWordLabel, Stands, StandsInCode, StandsInData, ear_of, global_of, of_symbols, word_of_data}
 use Rattle.spu_lift.specs.LiftFaults.{IsAbsent}
 use Rattle.spu_lift.specs.Checks.{IsEntryAt}
-use Rattle.spu_lift.specs.FunctionTables.{AreFunctions, IsLiftedIn, IsPlaceIn, IsPlaceMeant, extent_in, is_in, symbol_name}
-use Rattle.spu_lift.specs.TakenPlaces.{IsTakenPlace, LabelsPlace, TakesPlaces, place_of, spot_in, takes}
-use Rattle.spu_lift.specs.Built.{AreFunctionsBuilt, AreLabels, ArePartsBuilt, AreWordsFilled, HasPartBuilt, IsFunctionBuilt, IsPartBuilt, IsWordOfLabel, code_section, label_at, word_spot}
+use Rattle.spu_lift.specs.FunctionTables.{AreFunctions, IsLiftedIn, IsPlaceIn, extent_in}
+use Rattle.spu_lift.specs.TakenPlaces.{IsTakenPlace, LabelsPlace, place_of, spot_in}
+use Rattle.spu_lift.specs.Built.{AreFunctionsBuilt, ArePartsBuilt, AreWordsFilled, HasPartBuilt, IsFunctionBuilt, IsPartBuilt, IsWordOfLabel, code_section, word_spot}
 use Rattle.spu_lift.proofs.Rising.{at_contains, contains_at, none_contained}
 use Rattle.spu_lift.proofs.SectionNumbers.{count_of, number_by, numbered_at}
-use Rattle.spu_lift.proofs.OneExtent.{AreApart, AreEven, Lies, at_one, extent_even, extent_lies, object_there, one_extent, reloc_formed, section_valid}
+use Rattle.spu_lift.proofs.OneExtent.{AreApart, AreEven, Lies, at_one, extent_even, extent_lies, object_there, reloc_formed, section_valid}
 use Rattle.spu_lift.proofs.OneProgram.{AreFixed, function_there, one_label, one_lifted, one_place}
 use Rattle.spu_lift.proofs.LiftedCode.{IsLabelPlace, label_in, lifted_in, not_bad, reloc_is, start_names}
 use Rattle.spu_lift.proofs.NumberedFunctions.{are_numbered, number_of, numbered_extent, place_at}
@@ -108,8 +107,8 @@ module _ (os : List Object) (name : List ℕ) (fs : List FunctionSymbol) (h : Ar
 
   -- ---- functions
 
-  pub function_of : (taken : Taken) (i : ℕ) (f : FunctionSymbol) (g : Function) → slice_get fs i ≡ Some f → IsFunctionBuilt os fs taken (i + 1) f g → IsFunctionOf os (map extent_in fs) (i + 1) (extent_in f) g
-  function_of taken i f g at built =
+  pub function_of : (is_taken : Place → Bool) (i : ℕ) (f : FunctionSymbol) (g : Function) → slice_get fs i ≡ Some f → IsFunctionBuilt os fs is_taken (i + 1) f g → IsFunctionOf os (map extent_in fs) (i + 1) (extent_in f) g
+  function_of is_taken i f g at built =
       let named = h.functions.named i f at in
       let even = (there_is i f at).even.size in
       let count = built.code.count in
@@ -122,14 +121,14 @@ module _ (os : List Object) (name : List ℕ) (fs : List FunctionSymbol) (h : Ar
         words = λ w s here. word_lifted i f w s at (built.code.each w s here);
       }
 
-  module _ (p : Prog) (taken : Taken) (functions : AreFunctionsBuilt os fs taken p.data_end p.entry (length fs) p.functions) where
+  module _ (p : Prog) (is_taken : Place → Bool) (functions : AreFunctionsBuilt os fs is_taken p.data_end p.entry (length fs) p.functions) where
     pub all_functions : (f : ℕ) (x : Extent) (g : Function) → extent_of (map extent_in fs) f ≡ Some x → slice_get p.functions f ≡ Some g → IsFunctionOf os (map extent_in fs) f x g
     all_functions zero x g at there = absurd (cc)
     all_functions (suc i) x g at there =
         let f = numbered_extent fs i x at in
         let next : suc i ≡ i + 1 = omega arith in
         let built = functions.each i f.0 g (slice_get_within fs i f.0 f.1) f.1 (ap (slice_get p.functions) (sym next) ∙ there) in
-        subst (λ m. IsFunctionOf os (map extent_in fs) m x g) (sym next) (subst (λ (y : Extent). IsFunctionOf os (map extent_in fs) (i + 1) y g) f.2 (function_of taken i f.0 g f.1 built))
+        subst (λ m. IsFunctionOf os (map extent_in fs) m x g) (sym next) (subst (λ (y : Extent). IsFunctionOf os (map extent_in fs) (i + 1) y g) f.2 (function_of is_taken i f.0 g f.1 built))
 
     -- word w of function i
     record HasWord (i w : ℕ) (f : FunctionSymbol) : Type 0 where
@@ -153,7 +152,7 @@ module _ (os : List Object) (name : List ℕ) (fs : List FunctionSymbol) (h : Ar
       pub number : f ≡ i + 1
       pub symbol : FunctionSymbol
       pub at : slice_get fs i ≡ Some symbol
-      pub built : IsFunctionBuilt os fs taken (i + 1) symbol g
+      pub built : IsFunctionBuilt os fs is_taken (i + 1) symbol g
 
     function_by : (f : ℕ) (g : Function) → slice_get p.functions f ≡ Some g → (g ≡ start_code p.data_end p.entry) × (f ≡ 0) ⊎ HasFunction f g
     function_by zero g at = inl (at_one (slice_get p.functions 0) g (start_code p.data_end p.entry) at functions.start, refl)
@@ -404,8 +403,8 @@ module _ (os : List Object) (name : List ℕ) (fs : List FunctionSymbol) (h : Ar
           let place = by.labeled.2.labeled.2 in
           place_word q (label_in os (map extent_in fs) (meaning_of os n place.r) (label_of q.function q.word) (is_label os fs (meaning_of os n place.r) q h.functions place.place))
 
-      module _ (takes_all : TakesPlaces os fs taken) where
-        pub taken_functions : IsRising p.taken → ((f : ℕ) → Contains p.taken f ↔ ((1 ≤ f) × (f ≤ length fs) × (takes taken (record { function = f; word = 0 }) ≡ true))) → AreTaken p labels.Fun p.taken
+      module _ (takes_all : (q : Place) → (is_taken q ≡ true) ↔ IsTakenPlace os fs q) where
+        pub taken_functions : IsRising p.taken → ((f : ℕ) → Contains p.taken f ↔ ((1 ≤ f) × (f ≤ length fs) × (is_taken (record { function = f; word = 0 }) ≡ true))) → AreTaken p labels.Fun p.taken
         taken_functions rising these = record {
           rising = rising;
           each = λ n c. stands_so (record { function = n; word = 0 }) ((takes_all (record { function = n; word = 0 })).0 ((these n).0 c).2);
@@ -482,7 +481,7 @@ module _ (os : List Object) (name : List ℕ) (fs : List FunctionSymbol) (h : Ar
             ap (extent_of (map extent_in fs)) (same.0 ∙ next) ∙ number_of fs has.i has.f has.there ∙ ap Some has.is
 
         pub program_is : (q : Spot) → IsEntryAt os name q → ((r : Place) → IsPlaceIn fs q r → (w : ℕ) × IsPlaceIn fs q (record { function = p.entry; word = w }))
-            → p.code ≡ map code_section (filter holds_code (all_sections os)) → IsRising p.taken → ((f : ℕ) → Contains p.taken f ↔ ((1 ≤ f) × (f ≤ length fs) × (takes taken (record { function = f; word = 0 }) ≡ true)))
+            → p.code ≡ map code_section (filter holds_code (all_sections os)) → IsRising p.taken → ((f : ℕ) → Contains p.taken f ↔ ((1 ≤ f) × (f ≤ length fs) × (is_taken (record { function = f; word = 0 }) ≡ true)))
             → p.ears ≡ of_symbols (ear_of os) os → p.globals ≡ of_symbols (global_of os) os → p.data_end ≡ data_end_of os → IsProgramOf os name p
         program_is q at found code rising these ears globals data_end = record {
           fs = map extent_in fs;

@@ -113,7 +113,7 @@ place_found fs n k at = by (search (holds_word n k at) fs)
 pos_same : (a b : ℕ) → pos a ≡ pos b → a ≡ b
 pos_same a b e = cc
 
-place_for : (fs : List FunctionSymbol) (n k : ℕ) (offset : ℤ) → ((p : Place) × IsPlaceFor fs n k offset p) ⊎ ((p : Place) → IsPlaceFor fs n k offset p → ⊥)
+pub place_for : (fs : List FunctionSymbol) (n k : ℕ) (offset : ℤ) → ((p : Place) × IsPlaceFor fs n k offset p) ⊎ ((p : Place) → IsPlaceFor fs n k offset p → ⊥)
 place_for fs n k (pos at) = by (place_found fs n k at)
   where
     by : ((p : Place) × IsPlaceIn fs (record { object = n; section = k; offset = at }) p) ⊎ ((p : Place) → IsPlaceIn fs (record { object = n; section = k; offset = at }) p → ⊥)

@@ -1,10 +1,11 @@
 -- Where a relocation may stand, and which of several stands first at a place.
-use Rattle.std.proofs.Common.{◌≡◌, ℕ, zero, suc, ◌+◌, ◌-◌, ◌<◌, ◌⊎◌, ◌==◌, Bool, true, false, not, eqb, nat_le, if◌then◌else◌, List, [], ◌∷◌, length, Option, Some, None, slice_get, refl, sym, ap, subst, ◌∙◌, inl, inr, arith, add-zero}
+use Rattle.std.proofs.Common.{◌≡◌, ℕ, zero, suc, ◌+◌, ◌-◌, ◌%◌, ◌<◌, ◌⊎◌, ◌==◌, Bool, true, false, not, eqb, nat_le, if◌then◌else◌, List, [], ◌∷◌, length, Option, Some, None, slice_get, refl, sym, ap, subst, ◌∙◌, inl, inr, arith, add-zero}
 use Rattle.std.specs.List.{position_from}
 use Rattle.std.specs.Option.{option_and_then, option_eq, option_map_or}
 use Rattle.std.proofs.lemmas.Bool.{cases_Bool, eqb-true, eq-eqb, false≢true}
 use Rattle.std.proofs.lemmas.Bool.Decides.{eqb_tells}
 use Rattle.std.proofs.lemmas.Option.{cond_some, none-some, same_Some}
+use Rattle.spu_word.specs.declared.limits.TheConstants.{WORD_SIZE}
 use Rattle.spu_word.specs.Bytes.{be_number}
 use Rattle.spu_isa.specs.declared.instruction.Inst.{Inst}
 use Rattle.spu_isa.specs.Table.{Decodes}
@@ -19,7 +20,7 @@ use Rattle.spu_reloc.specs.declared.field.RelocKind.TheVariants.{Addr16, Addr16H
 use Rattle.spu_reloc.specs.Fields.{fits_on, number_of}
 use Rattle.spu_lift.specs.declared.relocations.Spot.{Spot}
 use Rattle.spu_lift.specs.Tables.{is_code, reloc_at, relocs_of, section_at}
-use Rattle.spu_lift.specs.LiftFaults.{FitsIn, IsSecond}
+use Rattle.spu_lift.specs.LiftFaults.{FitsIn, IsBadReloc, IsSecond}
 use Rattle.spu_lift.specs.LookUps.{HasWord, IsWordOf, stands_at, word_at, word_in}
 use Rattle.spu_lift.specs.Checks.{MayHave, spot_of}
 use Rattle.spu_lift.proofs.ExtentFacts.{both_true, code_only, true_both}
@@ -174,3 +175,14 @@ pub second_if : (os : List Object) (n i : ℕ) (r : Reloc) (o : Option ℕ) (b :
 second_if os n i r o b there noted tells =
     let parts = not_equal o i b tells in
     (λ passes. second os n i r o there noted (parts.0 passes), λ s. parts.1 (not_second os n i r o noted s))
+
+-- a relocation at a multiple of 4 that is no second is bad where it may not stand
+pub unfit_if : (os : List Object) (n i : ℕ) (r : Reloc) (t : Section) (b : Bool) → r.offset % WORD_SIZE ≡ 0 → (IsSecond os n i r → ⊥) → (b ≡ true → FitsIn t.kind t r) × (FitsIn t.kind t r → b ≡ true)
+    → (not b ≡ true → IsBadReloc os n i r t) × (IsBadReloc os n i r t → not b ≡ true)
+unfit_if os n i r t true even first stands = (λ fails. absurd (false≢true fails), λ bad. absurd (good bad))
+  where
+    good : IsBadReloc os n i r t → ⊥
+    good (inl odd) = odd even
+    good (inr (inl second)) = first second
+    good (inr (inr misfit)) = misfit (stands.0 refl)
+unfit_if os n i r t false even first stands = (λ misfit. inr (inr (λ fits. absurd (false≢true (stands.1 fits)))), λ bad. refl)

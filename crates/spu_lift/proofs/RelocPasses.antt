@@ -3,7 +3,7 @@ use Rattle.std.proofs.Common.{◌≡◌, ◌≢◌, ℕ, ◌+◌, ◌<◌, ◌�
 use Rattle.std.specs.Option.{option_map_or}
 use Rattle.std.proofs.lemmas.Bool.{cases_lt}
 use Rattle.std.proofs.lemmas.Option.{none-some, same_Some, slice_get-get_or, slice_get_within}
-use Rattle.spu_elf.specs.Validity.{IsValidSection, bytes_len}
+use Rattle.spu_elf.specs.Validity.{IsWellFormedSection, bytes_len}
 use Rattle.spu_elf.specs.WellFormed.{IsWellFormed, IsWellFormedReloc}
 use Rattle.spu_elf.specs.declared.objects.SecKind.{SecKind}
 use Rattle.spu_elf.specs.declared.objects.SecKind.TheVariants as kinds
@@ -35,7 +35,7 @@ sound_reloc os n i o r formed there at =
     let object = object_at os n o there in
     let well = formed_reloc o i r formed at in
     let t : Section = well.target.0 in
-    let valid : IsValidSection t = all_at IsValidSection o.sections r.section t formed.sections well.target.1 in
+    let valid : IsWellFormedSection t = all_at IsWellFormedSection o.sections r.section t formed.sections well.target.1 in
     let bytes : length t.bytes ≡ t.size = valid.filled ∙ filled t.kind t.size well.target.2.filled in
     let inside = well.target.2.inside in
     let symbol = symbol_there o.symbols r.symbol well.known in

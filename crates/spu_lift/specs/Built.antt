@@ -1,7 +1,6 @@
 -- What is built of a program, part by part, from the tables. No clause of a public call cites this.
-use Rattle.std.specs.Prelude.{◌≡◌, ℕ, ◌+◌, ◌*◌, ◌/◌, ◌^◌, ◌<◌, ◌≤◌, ◌⊎◌, ◌↔◌, true, not, List, [], ◌∷◌, ◌++◌, length, take, drop, map, filter, Option, Some, None, slice_get}
+use Rattle.std.specs.Prelude.{◌≡◌, ℕ, ◌+◌, ◌*◌, ◌/◌, ◌^◌, ◌<◌, ◌≤◌, ◌⊎◌, ◌↔◌, Bool, true, not, List, [], ◌∷◌, ◌++◌, length, take, drop, map, filter, Option, Some, None, slice_get}
 use Rattle.std.specs.List.{Contains}
-use Rattle.std.specs.Option.{option_map_or}
 use Rattle.spu_word.specs.declared.limits.TheConstants.{WORD_SIZE}
 use Rattle.spu_word.specs.Bytes.{with_be}
 use Rattle.spu_elf.specs.declared.objects.Section.{Section}
@@ -15,7 +14,6 @@ use Rattle.spu_lift.specs.declared.program.Function.{Function}
 use Rattle.spu_lift.specs.declared.program.CodeSection.{CodeSection}
 use Rattle.spu_lift.specs.declared.program.WordLabel.{WordLabel}
 use Rattle.spu_lift.specs.declared.program.Part.{Part}
-use Rattle.spu_lift.specs.declared.taken.Taken.{Taken}
 use Rattle.spu_lift.specs.StartCode.{start_code}
 use Rattle.spu_lift.specs.WellFormed.{IsRising}
 use Rattle.spu_lift.specs.Tables.{code_number, data_address, holds_code, holds_data, reloc_on, section_at, sections_before}
@@ -23,7 +21,7 @@ use Rattle.spu_lift.specs.Extents.{label_of}
 use Rattle.spu_lift.specs.Meanings.{meaning_of}
 use Rattle.spu_lift.specs.Lifted.{number_in, word_of_data}
 use Rattle.spu_lift.specs.FunctionTables.{IsLiftedIn, symbol_name}
-use Rattle.spu_lift.specs.TakenPlaces.{LabelsPlace, spot_in, takes}
+use Rattle.spu_lift.specs.TakenPlaces.{LabelsPlace, spot_in}
 
 -- ---- functions
 
@@ -45,20 +43,21 @@ pub record AreInstructions (os : List Object) (fs : List FunctionSymbol) (n : �
   pub count : length code ≡ words
   pub each : (w : ℕ) (s : SymInst) → slice_get code w ≡ Some s → IsLiftedIn os fs n (spot_in f w) s
 
-pub record IsFunctionBuilt (os : List Object) (fs : List FunctionSymbol) (t : Taken) (n : ℕ) (f : FunctionSymbol) (g : Function) : Type 0 where
+-- function n, with the places of its words that are taken
+pub record IsFunctionBuilt (os : List Object) (fs : List FunctionSymbol) (is_taken : Place → Bool) (n : ℕ) (f : FunctionSymbol) (g : Function) : Type 0 where
   pub name : g.name ≡ symbol_name os f
   pub global : g.global ≡ not f.local
   pub section : g.section ≡ code_number os f.object f.section
   pub offset : g.offset ≡ f.offset
   pub code : AreInstructions os fs n f (f.size / WORD_SIZE) g.code
   pub rising : IsRising g.taken
-  pub taken : (w : ℕ) → Contains g.taken w ↔ ((1 ≤ w) × (w < f.size / WORD_SIZE) × (takes t (record { function = n; word = w }) ≡ true))
+  pub taken : (w : ℕ) → Contains g.taken w ↔ ((1 ≤ w) × (w < f.size / WORD_SIZE) × (is_taken (record { function = n; word = w }) ≡ true))
 
 -- the start code and the first functions
-pub record AreFunctionsBuilt (os : List Object) (fs : List FunctionSymbol) (t : Taken) (data_end entry first : ℕ) (gs : List Function) : Type 0 where
+pub record AreFunctionsBuilt (os : List Object) (fs : List FunctionSymbol) (is_taken : Place → Bool) (data_end entry first : ℕ) (gs : List Function) : Type 0 where
   pub start : slice_get gs 0 ≡ Some (start_code data_end entry)
   pub count : length gs ≡ first + 1
-  pub each : (i : ℕ) (f : FunctionSymbol) (g : Function) → i < first → slice_get fs i ≡ Some f → slice_get gs (i + 1) ≡ Some g → IsFunctionBuilt os fs t (i + 1) f g
+  pub each : (i : ℕ) (f : FunctionSymbol) (g : Function) → i < first → slice_get fs i ≡ Some f → slice_get gs (i + 1) ≡ Some g → IsFunctionBuilt os fs is_taken (i + 1) f g
 
 -- ---- sections of code
 

@@ -1,7 +1,5 @@
 pub mod Places
 pub mod StartCode
-pub mod FirstForm
-pub mod First
 pub mod WellFormed
 pub mod Tables
 pub mod Extents

@@ -11,6 +11,7 @@ ghost use Rattle.spu_lift.specs.LiftFaults.{IsAbsent};
 ghost use Rattle.spu_lift.specs.LookUps.{AreTables};
 ghost use Rattle.spu_lift.specs.FunctionTables.{HasPlaces, IsLifting, IsPlaceIn};
 ghost use Rattle.spu_lift.specs.Checks.{IsEntryAt};
+ghost use Rattle.spu_lift.specs.TakenPlaces.{takes};
 ghost use Rattle.spu_lift.specs.Built.{AreFunctionsBuilt, AreInstructions, AreReady, IsFunctionBuilt, IsReady, code_section};
 
 use crate::functions::FunctionSymbol;
@@ -94,7 +95,7 @@ impl Lifting<'_> {
         requires tables { AreTables self.now.tables }
         requires places { HasPlaces self.now.functions.sorted.items }
         requires ready { IsReady self.now.tables.objects.now self.now.functions.sorted.items number f.now }
-        ensures { IfOk result (IsFunctionBuilt self.now.tables.objects.now self.now.functions.sorted.items taken.now number f.now) }
+        ensures { IfOk result (IsFunctionBuilt self.now.tables.objects.now self.now.functions.sorted.items (takes taken.now) number f.now) }
     {
         Ok(Function {
             name: self.name(alloc, f)?,
@@ -116,7 +117,7 @@ impl Lifting<'_> {
         requires tables { AreTables self.now.tables }
         requires places { HasPlaces self.now.functions.sorted.items }
         requires ready { AreReady self.now.tables.objects.now self.now.functions.sorted.items }
-        ensures { IfOk result (AreFunctionsBuilt self.now.tables.objects.now self.now.functions.sorted.items taken.now (data_end_of self.now.tables.objects.now) entry (length self.now.functions.sorted.items)) }
+        ensures { IfOk result (AreFunctionsBuilt self.now.tables.objects.now self.now.functions.sorted.items (takes taken.now) (data_end_of self.now.tables.objects.now) entry (length self.now.functions.sorted.items)) }
     {
         let data_end = (self.tables.sections.data_end() & 0xffff_ffff) as u32;
         let mut functions = Seq::new(alloc);

@@ -7,7 +7,7 @@ ghost use Rattle.spu_elf.specs.declared.objects.Section.{Section};
 ghost use Rattle.spu_lift.specs.declared.fault.LiftKind.TheVariants as kinds;
 ghost use Rattle.spu_lift.specs.declared.fault.LiftFault.TheVariants as faults;
 ghost use Rattle.spu_lift.specs.Tables.{section_at};
-ghost use Rattle.spu_lift.specs.LiftFaults.{IsFiller, Shows};
+ghost use Rattle.spu_lift.specs.LiftFaults.{IsFiller, Shows, is_filler};
 ghost use Rattle.spu_lift.specs.FunctionTables.{IsLifting};
 ghost use Rattle.spu_lift.specs.Checks.{AreCovered, AreFillers, AreLaidOut, IsAnswer, IsFirstStray, IsFirstUncovered, IsNowhere, IsTold, within};
 
@@ -21,15 +21,27 @@ use spu_word::be32;
 use spu_word::limits::WORD_SIZE;
 use std::alloc::Global;
 
+/// Whether an operation is `lnop` or `nop`.
+fn is_idle(op: Op) -> bool
+    ensures { result ≡ is_filler op }
+{
+    match op {
+        Op::Lnop | Op::Nop => true,
+        _ => false,
+    }
+}
+
 /// Whether a word may stand outside of functions: 0, `lnop` and `nop` may.
 fn is_filler(word: u32) -> bool
     ensures { IsTrue result ↔ IsFiller word }
 {
-    word == 0
-        || match decode(word) {
-            Some(x) => x.op == Op::Lnop || x.op == Op::Nop,
-            None => false,
-        }
+    if word == 0 {
+        return true;
+    }
+    match decode(word) {
+        Some(x) => is_idle(x.op),
+        None => false,
+    }
 }
 
 /// The first word from one index to another that may not stand outside of functions, as its index.

@@ -3,18 +3,11 @@
 ghost use Rattle.spu_word.specs.declared.limits.TheConstants.{MAX_OBJECTS};
 ghost use Rattle.spu_elf.specs.declared.objects.Object.{Object};
 ghost use Rattle.spu_lift.specs.declared.program.Prog.{Prog};
-ghost use Rattle.spu_lift.specs.FirstForm.{IsFirst};
-ghost use Rattle.spu_lift.specs.First.{StandsFor};
 ghost use Rattle.spu_lift.specs.WellFormed.{IsWellFormed};
-ghost use Rattle.std.specs.Prelude.{◌≡◌, ◌≤◌, length, List, ℕ, All};
+ghost use Rattle.std.specs.Prelude.{◌≡◌, ◌≤◌, ◌⊎◌, length, List, ℕ, All};
 ghost use Rattle.spu_elf.specs.WellFormed.{IsWellFormed as IsWellFormedObject};
 ghost use Rattle.spu_lift.specs.declared.fault.LiftFault.{LiftFault};
 ghost use Rattle.spu_lift.specs.LiftFaults.{Lifted, IsLeastFault};
-
-/// The program that an object of the first form stands for is well formed.
-pub fn first_programs_are_formed()
-    ensures { (o : Object) (p : Prog) → IsFirst o → StandsFor o p → IsWellFormed p }
-{}
 
 /// Objects that stand for a program have no fault.
 pub fn not_lifted_and_faulty()
@@ -34,4 +27,9 @@ pub fn one_program()
 /// A program that at most 64 well-formed objects stand for is well formed.
 pub fn lifted_programs_are_formed()
     ensures { (os : List Object) (entry : List ℕ) (p : Prog) → length os ≤ MAX_OBJECTS → All IsWellFormedObject os → Lifted os entry p → IsWellFormed p }
+{}
+
+/// At most 64 well-formed objects stand for a program, or have a least fault.
+pub fn lifted_or_refused()
+    ensures { (os : List Object) (entry : List ℕ) → length os ≤ MAX_OBJECTS → All IsWellFormedObject os → ((p : Prog) × Lifted os entry p) ⊎ ((fault : LiftFault) × IsLeastFault os entry fault) }
 {}

@@ -2,7 +2,7 @@
 
 ghost use Rattle.std.specs.Prelude.{◌≡◌, ◌+◌, ◌*◌, ◌^◌, ◌<◌, ◌≤◌, nat_lt, max, if◌then◌else◌, length, fold, List, All, IfOk, OnOk};
 ghost use Rattle.spu_word.specs.declared.limits.TheConstants.{MAX_OBJECTS, MAX_SECTION_SIZE, QUAD_SIZE};
-ghost use Rattle.spu_elf.specs.Validity.{IsValidSection};
+ghost use Rattle.spu_elf.specs.Validity.{IsWellFormedSection};
 ghost use Rattle.spu_elf.specs.WellFormed.{IsWellFormed};
 ghost use Rattle.spu_lift.specs.Tables.{multiple_from};
 ghost use Rattle.spu_lift.specs.Placed.{ArePlaced, HasRoom, count_after, end_after, placing_at, placing_from, placings_from};
@@ -74,7 +74,7 @@ impl Sections {
         sections: &[Section],
     ) -> Result<Seq<Placing>, OutOfMemory>
         requires room { HasRoom self.old.end self.old.code (length sections.now) }
-        requires valid { All IsValidSection sections.now }
+        requires valid { All IsWellFormedSection sections.now }
         ensures placings { IfOk result (λ ps. ps ≡ placings_from self.old.end self.old.code sections.now) }
         ensures end { OnOk result (self.new.end ≡ fold end_after self.old.end sections.now) }
         ensures code { OnOk result (self.new.code ≡ fold count_after self.old.code sections.now) }

@@ -2,7 +2,7 @@
 
 use crate::listing::listing;
 use crate::made::objects;
-use spu_lift::{LiftFault, Prog, is_first, lift, lift_first};
+use spu_lift::{LiftFault, Prog, lift};
 use std::alloc::Global;
 use std::test::Fail;
 
@@ -85,10 +85,11 @@ fn lifts_two_objects(rt: HostRuntime) -> Result<(), Fail> {
     Ok(())
 }
 
-/// `il $3,5; wrch $ch28,$3; bi $0` in `main`: an object of the first form.
-const FIRST: &str = "code .text 8 40800283 21a00e03 35000000; global main function 0 0 12";
+/// `il $3,5; wrch $ch28,$3; bi $0` in `main`, without data.
+const SMALL: &str = "code .text 8 40800283 21a00e03 35000000; global main function 0 0 12";
 
-const FIRST_PROGRAM: &str = "\
+/// Its program.
+const SMALL_PROGRAM: &str = "\
     _start false 0 0 taken\n  \
         Lqr 1 0 0 Number(128)\n  \
         Brsl 0 0 0 Call(1)\n  \
@@ -103,14 +104,9 @@ const FIRST_PROGRAM: &str = "\
     end 128\n";
 
 #[test]
-fn lifts_the_first_form(rt: HostRuntime) -> Result<(), Fail> {
+fn lifts_a_program_without_data(rt: HostRuntime) -> Result<(), Fail> {
     let alloc = rt.alloc();
-    let objects = objects(alloc, FIRST).ok().ok_or("an object")?;
-    let object = objects.get(0).ok_or("an object")?;
-    assert!(rt; is_first(object));
-    let first = lift_first(alloc, object).ok().ok_or("memory")?;
-    assert_eq!(rt; listing(alloc, &first)?.as_str(), FIRST_PROGRAM);
-    let program = lifted(alloc, FIRST, b"main").ok().ok_or("a program")?;
-    assert_eq!(rt; listing(alloc, &program)?.as_str(), FIRST_PROGRAM);
+    let program = lifted(alloc, SMALL, b"main").ok().ok_or("a program")?;
+    assert_eq!(rt; listing(alloc, &program)?.as_str(), SMALL_PROGRAM);
     Ok(())
 }

@@ -20,7 +20,7 @@ use Rattle.spu_lift.specs.declared.program.Prog.{Prog}
 use Rattle.spu_lift.specs.StartCode.{of_register, symbolic, start_code}
 use Rattle.spu_lift.specs.Places.{place_in, instruction_at, taken_in, taken_places, IsPlace}
 use Rattle.spu_lift.specs.WellFormed.{IsCallee, IsRising, IsInstruction, IsFunction, AreApart, IsWellFormed}
-use Rattle.spu_lift.proofs.FirstFormed.{lqr_formed, brsl_formed, stop_formed}
+use Rattle.spu_lift.proofs.StartFormed.{lqr_formed, brsl_formed, stop_formed}
 
 none_in : {A : Type 0} (x : A) → Contains [] x → ⊥
 none_in x (k, lt, e) = omega (arith, lt)
