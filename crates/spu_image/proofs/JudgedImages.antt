@@ -26,8 +26,8 @@ use Rattle.spu_layout.proofs.Flats.{planned}
 use Rattle.spu_image.specs.Images.{IsFlatExec, function_symbol, function_symbols, data_symbol, stack_name, stack_symbol, stack_symbol_by, stack_symbols}
 use Rattle.spu_image.specs.Filling.{HasOneSegment, IsLaidOut, told_in}
 use Rattle.spu_image.specs.JudgedLinking.{IsFileTooLarge, IsImage, IsImageRefused, IsPlanRefused, told_of}
-use Rattle.spu_image.specs.declared.outcome.ImageFault.{ImageFault}
-use Rattle.spu_image.specs.declared.outcome.ImageFault.TheVariants as faults
+use Rattle.spu_image.specs.declared.outcome.LinkFault.{LinkFault}
+use Rattle.spu_image.specs.declared.outcome.LinkFault.TheVariants as faults
 use Rattle.spu_image.proofs.FlatImages.{flat_headline}
 use Rattle.spu_image.proofs.FlatFiles.{flat_valid, names_short, segment_quads}
 use Rattle.spu_image.proofs.NeedBounds.{told_small}
@@ -151,11 +151,8 @@ module _ (j : Judged) (limit : ℕ) (judged : IsJudgement j.prog limit j) (low :
     too_large size e over = record { plan = plan; fits = fits; exec = x; image = image; is = e; over = over }
 
     pub linked : (file : List ℕ) → file ≡ spell_exec x → IsValidExec x
-        → IsImage j limit is_told (record { exec = x; file = file; prog = p; depths = j.depths; needs = j.needs; plan = plan; layout = layout })
+        → IsImage limit is_told (record { exec = x; file = file; prog = p; depths = j.depths; needs = j.needs; plan = plan; layout = layout })
     linked file e v = record {
-      program = refl;
-      depths = refl;
-      needs = refl;
       fits = fits;
       layout = is;
       functions = count;
@@ -169,7 +166,11 @@ module _ (j : Judged) (limit : ℕ) (judged : IsJudgement j.prog limit j) (low :
 
 -- ---- refusals
 
-pub plan_refused : (j : Judged) (limit : ℕ) (is_told : Bool) (e : ImageFault) → IsPlanRefused j.prog limit e → IsImageRefused j limit is_told e
+pub plan_refused : (j : Judged) (limit : ℕ) (is_told : Bool) (e : LinkFault) → IsPlanRefused j.prog limit e → IsImageRefused j limit is_told e
 plan_refused j limit is_told (faults.TooLarge least room) h = h
-plan_refused j limit is_told (faults.FileTooLarge size) h = absurd h
 plan_refused j limit is_told faults.OutOfMemory h = tt
+plan_refused j limit is_told (faults.Lift fault) h = absurd h
+plan_refused j limit is_told (faults.Frame kind name offset) h = absurd h
+plan_refused j limit is_told (faults.Recursion names) h = absurd h
+plan_refused j limit is_told (faults.StackLimit need told) h = absurd h
+plan_refused j limit is_told (faults.FileTooLarge size) h = absurd h

@@ -36,11 +36,12 @@ pub mod NeedBounds
 pub mod FileLengths
 pub mod FlatPlans
 pub mod JudgedImages
-pub mod FirstFiles
-pub mod FirstLinks
-pub mod Samples
+pub mod JudgedExactly
+pub mod Exact
+pub mod LinksExactly
+pub mod LinkAnswers
 pub mod FlatSteps
-pub mod SampleRuns
+pub mod FlatStarts
 pub mod TourRuns
 pub mod TourLinks
 pub mod RegionBytes

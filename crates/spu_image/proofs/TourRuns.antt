@@ -1,5 +1,14 @@
 -- The promise in general, applied to the sample program that has an instruction of each kind.
-use Rattle.std.proofs.Common.{◌≡◌, ℕ, List, [], ◌∷◌, Option, Some, true, inl, refl, ap₂, ◌∙◌, subst, arith, lit≤}
+use Rattle.std.proofs.Common.{◌≡◌, ℕ, ◌≤◌, List, [], ◌∷◌, Option, Some, true, inl, refl, ap₂, ◌∙◌, subst, arith, lit≤}
+use Rattle.std.specs.Prelude.{pos}
+use Rattle.spu_isa.specs.declared.operation.Op.TheVariants as op
+use Rattle.spu_isa.specs.Table.{Decodes}
+use Rattle.spu_ls.specs.Hops.{Along}
+use Rattle.spu_ls.specs.Machine.{step as machine_step}
+use Rattle.spu_ls.specs.Stores.{fetch}
+use Rattle.spu_layout.specs.Layouts.{AreDisjoint, areas}
+use Rattle.spu_lift.specs.Places.{instruction_at}
+use Rattle.spu_image.specs.Words.{IsWord}
 use Rattle.spu_exec.specs.Tags.{status}
 use Rattle.spu_word.specs.Bytes.{word_of}
 use Rattle.spu_elf.specs.declared.executables.Exec.{Exec}
@@ -13,7 +22,7 @@ use Rattle.spu_ideal.specs.Results.{are_known, computed_byte, symbolic_byte, lab
 use Rattle.spu_ideal.specs.Channels.{land_all, numbers_from}
 use Rattle.spu_ideal.specs.Machine.{with_entries, run, start, step, IsInside}
 use Rattle.spu_ideal.specs.State.{Sym, IsOutside}
-use Rattle.spu_ideal.specs.Samples.{nothing, tours, tour_frames}
+use Rattle.spu_ideal.specs.Samples.{nothing, tours, tour_frames, with_fields}
 use Rattle.spu_ideal.proofs.Samples as symbolic
 use Rattle.spu_ideal.proofs.TourJudged.{tour_judged}
 use Rattle.spu_layout.specs.Labels.{code}
@@ -21,7 +30,7 @@ use Rattle.spu_layout.specs.Placing.{sizes_of}
 use Rattle.spu_image.specs.Images.{IsFlatExec}
 use Rattle.spu_image.specs.Matching.{SameEnd}
 use Rattle.spu_image.specs.Agreeing.{Agrees}
-use Rattle.spu_image.specs.Headline.{CanStart, Headline, Hop}
+use Rattle.spu_image.specs.Headline.{CanStart, Headline, Hop, InHop}
 use Rattle.spu_image.specs.Samples.{tour_after, tour_layout}
 use Rattle.spu_image.proofs.Agreement.{link_leads, word_is}
 use Rattle.spu_image.proofs.FlatImages.{flat_headline}
@@ -76,3 +85,22 @@ module _ (told : ℕ → Option ℕ) (x : Exec) (file : List ℕ) (image : IsFla
 
   pub tour_stops : (tour_after x file 23).ended ≡ Some (machine.Stop 8192)
   tour_stops = subst (λ e. SameEnd tour_layout e (tour_after x file 23).ended) symbolic.tour_stops (hop_at 23 stops_inside).matched.ended
+
+  -- the first instruction of the second function
+  pub tour_meant : Decodes (fetch (tour_after x file 5).store 240) (with_fields op.Ai 4 4 0 (pos 7)).inst
+  tour_meant =
+      let hop = hop_at 5 enters_inside in
+      let there : instruction_at tours (tour 5).f (tour 5).i ≡ Some (with_fields op.Ai 4 4 0 (pos 7)) = ap₂ (instruction_at tours) entered.f entered.i in
+      let word : IsWord tour_layout (tour 5).f (tour 5).i (with_fields op.Ai 4 4 0 (pos 7)) (fetch (tour_after x file 5).store (tour_after x file 5).pc) = hop.meant (with_fields op.Ai 4 4 0 (pos 7)) there in
+      subst (λ pc. Decodes (fetch (tour_after x file 5).store pc) (with_fields op.Ai 4 4 0 (pos 7)).inst) tour_enters word
+
+  pub tour_stays : 262080 ≤ word_of ((machine_step (tour_after x file 4)).regs 1) 0
+  unfolding InHop Along
+  tour_stays = (hop_at 5 enters_inside).pointer.0
+
+  -- the code is kept, here at the second function
+  pub tour_keeps : (tour_after x file 23).store 240 ≡ (starting.start x file nothing).store 240
+  tour_keeps = (hop_at 23 stops_inside).code 240 (record { code = (lit≤ tt, lit≤ tt); apart = λ within. absurd (omega (arith, within.0, within.1)) })
+
+  pub tour_apart : AreDisjoint 128 (areas tour_layout) 262144
+  tour_apart = headline.apart

@@ -15,30 +15,31 @@ use Rattle.spu_layout.specs.Placing.{FitsFlat, layout_of, sizes_of}
 use Rattle.spu_layout.specs.Views.{function_count, layout_in}
 use Rattle.spu_image.specs.Images.{IsFlatExec, untold}
 use Rattle.spu_image.specs.Headline.{Headline}
-use Rattle.spu_image.specs.declared.outcome.Image.{Image}
-use Rattle.spu_image.specs.declared.outcome.ImageFault.{ImageFault}
-use Rattle.spu_image.specs.declared.outcome.ImageFault.TheVariants as faults
+use Rattle.spu_image.specs.declared.outcome.Linked.{Linked}
+use Rattle.spu_image.specs.declared.outcome.LinkFault.{LinkFault}
+use Rattle.spu_image.specs.declared.outcome.LinkFault.TheVariants as faults
 
 -- the needs that stack symbols tell: all that are known, if they are asked for
 abbrev pub told_of : Bool → (ℕ → Option ℕ) → ℕ → Option ℕ
 told_of true needs = needs
 told_of false needs = untold
 
--- the judged program, a flat plan with which it fits, its layout, its executable and that one's file, and what a run of the
--- executable promises within the need of the entry
-pub record IsImage (judged : Judged) (limit : ℕ) (stack_syms : Bool) (i : Image) : Type 0 where
-  pub program : i.prog ≡ judged.prog
-  pub depths : i.depths ≡ judged.depths
-  pub needs : i.needs ≡ judged.needs
-  pub fits : FitsFlat i.prog i.plan limit
-  pub layout : layout_in i.layout ≡ layout_of i.prog i.plan limit
-  pub functions : function_count i.layout ≡ length i.prog.functions
-  pub image : IsFlatExec i.prog (layout_of i.prog i.plan limit) limit (told_of stack_syms (need_of i.needs)) i.exec
-  pub valid : IsValidExec i.exec
-  pub file : i.file ≡ spell_exec i.exec
+-- the program, its depths, frames and needs, of which an image is made
+abbrev pub judged_in : Linked → Judged
+judged_in l = record { prog = l.prog; depths = l.depths; needs = l.needs }
+
+-- a flat plan with which the program fits, its layout, its executable and that one's file, and what a run of the executable promises
+-- within the need of the entry
+pub record IsImage (limit : ℕ) (stack_syms : Bool) (l : Linked) : Type 0 where
+  pub fits : FitsFlat l.prog l.plan limit
+  pub layout : layout_in l.layout ≡ layout_of l.prog l.plan limit
+  pub functions : function_count l.layout ≡ length l.prog.functions
+  pub image : IsFlatExec l.prog (layout_of l.prog l.plan limit) limit (told_of stack_syms (need_of l.needs)) l.exec
+  pub valid : IsValidExec l.exec
+  pub file : l.file ≡ spell_exec l.exec
   pub need : ℕ
-  pub entry : need_of i.needs i.prog.entry ≡ Some need
-  pub headline : Headline i.prog (layout_of i.prog i.plan limit) (frame_at i.depths) limit need i.exec i.file
+  pub entry : need_of l.needs l.prog.entry ≡ Some need
+  pub headline : Headline l.prog (layout_of l.prog l.plan limit) (frame_at l.depths) limit need l.exec l.file
 
 -- L20: the flat image doesn't end below the stack
 pub record IsTooLarge (p : Prog) (limit least room : ℕ) : Type 0 where
@@ -55,12 +56,14 @@ pub record IsFileTooLarge (p : Prog) (limit : ℕ) (told : ℕ → Option ℕ) (
   pub is : size ≡ length (spell_exec exec)
   pub over : MAX_FILE_SIZE < size
 
-abbrev pub IsPlanRefused : Prog → ℕ → ImageFault → Type 0
+-- a judged program has no image for one of two reasons, which want of memory may hide
+abbrev pub IsPlanRefused : Prog → ℕ → LinkFault → Type 0
 IsPlanRefused p limit (faults.TooLarge least room) = IsTooLarge p limit least room
-IsPlanRefused p limit (faults.FileTooLarge size) = ⊥
 IsPlanRefused p limit faults.OutOfMemory = Unit {0}
+IsPlanRefused p limit _ = ⊥
 
-abbrev pub IsImageRefused : Judged → ℕ → Bool → ImageFault → Type 0
+abbrev pub IsImageRefused : Judged → ℕ → Bool → LinkFault → Type 0
 IsImageRefused j limit stack_syms (faults.TooLarge least room) = IsTooLarge j.prog limit least room
 IsImageRefused j limit stack_syms (faults.FileTooLarge size) = IsFileTooLarge j.prog limit (told_of stack_syms (need_of j.needs)) size
 IsImageRefused j limit stack_syms faults.OutOfMemory = Unit {0}
+IsImageRefused j limit stack_syms _ = ⊥

@@ -1,37 +1,56 @@
--- What a link answers, for one object of the first form.
-use Rattle.std.specs.Prelude.{◌≡◌, ℕ, List, [], ◌∷◌, length}
+-- What the link of objects answers: the flat image of the program that they stand for, or the fault with the least number, at its first
+-- place. (The rules of programs, stacks and images are this project's own.)
+use Rattle.std.specs.Prelude.{ℕ, List}
 use Rattle.spu_elf.specs.declared.objects.Object.{Object}
-use Rattle.spu_lift.specs.FirstForm.{IsFirst}
-use Rattle.spu_elf.specs.Validity.{IsValidExec}
-use Rattle.spu_elf.specs.Spelling.{spell_exec}
-use Rattle.spu_lift.specs.First.{StandsFor}
-use Rattle.spu_layout.specs.Placing.{FitsFlat, layout_of}
-use Rattle.spu_layout.specs.Views.{function_count, layout_in}
-use Rattle.spu_ideal.specs.States.{IsJudged}
-use Rattle.spu_image.specs.Images.{IsFlatExec, untold}
-use Rattle.spu_image.specs.Headline.{Headline}
+use Rattle.spu_lift.specs.declared.program.Prog.{Prog}
+use Rattle.spu_lift.specs.LiftFaults.{IsLeastFault, Lifted}
+use Rattle.spu_graph.specs.Known.{need_of}
+use Rattle.spu_judge.specs.declared.outcome.Judged.{Judged}
+use Rattle.spu_judge.specs.Answers.{IsFrameRefusal, IsJudgement, IsLimitRefusal, IsRecursionRefusal}
 use Rattle.spu_image.specs.declared.outcome.Linked.{Linked}
+use Rattle.spu_image.specs.declared.outcome.LinkFault.{LinkFault}
+use Rattle.spu_image.specs.declared.outcome.LinkFault.TheVariants as faults
+use Rattle.spu_image.specs.declared.outcome.LinkOptions.{LinkOptions}
+use Rattle.spu_image.specs.JudgedLinking.{IsFileTooLarge, IsImage, IsTooLarge, judged_in, told_of}
 
--- the objects are one, of the first form
-pub record IsOneFirst (objects : List Object) : Type 0 where
-  pub object : Object
-  pub only : objects ≡ object ∷ []
-  pub first : IsFirst object
+-- ---- a judgement of objects
 
--- functions of the first form keep nothing on the stack
-abbrev pub no_frames : ℕ → ℕ
-no_frames f = 0
+-- the program that they stand for, with its depths, frames and needs
+pub record IsJudgedFrom (objects : List Object) (entry : List ℕ) (limit : ℕ) (j : Judged) : Type 0 where
+  pub program : Lifted objects entry j.prog
+  pub judgement : IsJudgement j.prog limit j
 
--- the program that the objects stand for, its frames and its need, its plan and layout, its executable and that one's file, and what a
--- run of the executable promises
-pub record IsLinked (objects : List Object) (limit : ℕ) (l : Linked) : Type 0 where
-  pub from : IsOneFirst objects
-  pub program : StandsFor from.object l.prog
-  pub judged : IsJudged l.prog no_frames 0
-  pub fits : FitsFlat l.prog l.plan limit
-  pub layout : layout_in l.layout ≡ layout_of l.prog l.plan limit
-  pub functions : function_count l.layout ≡ length l.prog.functions
-  pub image : IsFlatExec l.prog (layout_of l.prog l.plan limit) limit untold l.exec
-  pub valid : IsValidExec l.exec
-  pub file : l.file ≡ spell_exec l.exec
-  pub headline : Headline l.prog (layout_of l.prog l.plan limit) no_frames limit 0 l.exec l.file
+-- the objects stand for a program of which this holds
+pub record IsOfProgram (objects : List Object) (entry : List ℕ) (P : Prog → Type 0) : Type 0 where
+  pub prog : Prog
+  pub program : Lifted objects entry prog
+  pub holds : P prog
+
+-- L1 to L13 where they stand for no program, and L14 to L19 of the program that they stand for
+abbrev pub IsJudgeFault : List Object → List ℕ → ℕ → LinkFault → Type 0
+IsJudgeFault objects entry limit (faults.Lift fault) = IsLeastFault objects entry fault
+IsJudgeFault objects entry limit (faults.Frame kind name offset) = IsOfProgram objects entry (λ p. IsFrameRefusal p kind name offset)
+IsJudgeFault objects entry limit (faults.Recursion names) = IsOfProgram objects entry (λ p. IsRecursionRefusal p names)
+IsJudgeFault objects entry limit (faults.StackLimit need told) = IsOfProgram objects entry (λ p. IsLimitRefusal p limit need told)
+IsJudgeFault objects entry limit (faults.TooLarge least room) = ⊥
+IsJudgeFault objects entry limit (faults.FileTooLarge size) = ⊥
+IsJudgeFault objects entry limit faults.OutOfMemory = Unit {0}
+
+-- ---- a link of objects
+
+pub record IsLinked (objects : List Object) (o : LinkOptions) (l : Linked) : Type 0 where
+  pub judged : IsJudgedFrom objects o.entry o.limit (judged_in l)
+  pub image : IsImage o.limit o.stack_syms l
+
+-- the objects are judged, and of the judgement this holds
+pub record IsOfJudgement (objects : List Object) (o : LinkOptions) (P : Judged → Type 0) : Type 0 where
+  pub judged : Judged
+  pub from : IsJudgedFrom objects o.entry o.limit judged
+  pub holds : P judged
+
+-- L1 to L19, or, of what is judged, L20 or L21
+abbrev pub IsLinkFault : List Object → LinkOptions → LinkFault → Type 0
+IsLinkFault objects o (faults.TooLarge least room) = IsOfJudgement objects o (λ j. IsTooLarge j.prog o.limit least room)
+IsLinkFault objects o (faults.FileTooLarge size) =
+    IsOfJudgement objects o (λ j. IsFileTooLarge j.prog o.limit (told_of o.stack_syms (need_of j.needs)) size)
+IsLinkFault objects o fault = IsJudgeFault objects o.entry o.limit fault

@@ -1,13 +1,13 @@
 //! Links of judged programs.
 
-ghost use Rattle.std.specs.Prelude.{◌*◌, ◌≤◌, length, IfErr, IfOk};
+ghost use Rattle.std.specs.Prelude.{◌≡◌, ◌*◌, ◌≤◌, length, IfErr, IfOk};
 ghost use Rattle.spu_word.specs.declared.limits.TheConstants.{MAX_OBJECTS, MAX_STACK_LIMIT, MAX_SYMBOLS};
 ghost use Rattle.spu_judge.specs.Answers.{IsJudgement};
-ghost use Rattle.spu_image.specs.JudgedLinking.{IsImage, IsImageRefused};
+ghost use Rattle.spu_image.specs.JudgedLinking.{IsImage, IsImageRefused, judged_in};
 
 use crate::images::flat_exec;
 use crate::lengths::file_len;
-use crate::outcome::{Image, ImageFault};
+use crate::outcome::{LinkFault, Linked};
 use crate::planning::plan_flat;
 use crate::telling::told_needs;
 use spu_elf::write_exec;
@@ -25,11 +25,12 @@ pub fn link_judged(
     judged: Judged,
     limit: u32,
     stack_syms: bool,
-) -> Result<Image, ImageFault>
+) -> Result<Linked, LinkFault>
     requires judged { IsJudgement judged.prog limit judged }
     requires limit { limit ≤ MAX_STACK_LIMIT }
     requires globals { length judged.prog.globals ≤ MAX_OBJECTS * MAX_SYMBOLS }
-    ensures image { IfOk result (IsImage judged limit stack_syms) }
+    ensures of { IfOk result (λ l. judged_in l ≡ judged) }
+    ensures image { IfOk result (IsImage limit stack_syms) }
     ensures refused { IfErr result (IsImageRefused judged limit stack_syms) }
 {
     let Judged {
@@ -43,10 +44,10 @@ pub fn link_judged(
     let exec = flat_exec(alloc, &prog, &layout, limit, &told)?;
     let size = file_len(&exec);
     if size > u64::from(MAX_FILE_SIZE) {
-        return Err(ImageFault::FileTooLarge { size });
+        return Err(LinkFault::FileTooLarge { size });
     }
     let file = write_exec(alloc, &exec)?;
-    Ok(Image {
+    Ok(Linked {
         exec,
         file,
         prog,

@@ -17,6 +17,6 @@ mod telling;
 mod words;
 
 pub use judged_linking::link_judged;
-pub use linking::link;
-pub use outcome::{Image, ImageFault, LinkFault, LinkOptions, Linked};
+pub use linking::{judge, link};
+pub use outcome::{LinkFault, LinkOptions, Linked};
 pub use overlays::overlay_exec;

@@ -1,61 +1,107 @@
-//! The link of one object.
+//! Judgements and links of objects.
 
-ghost use Rattle.std.specs.Prelude.{◌≡◌, ◌∷◌, [], ℕ, codes, IfOk, Err};
-ghost use Rattle.spu_lift.specs.FirstForm.{IsFirst};
-ghost use Rattle.spu_image.specs.declared.outcome.LinkFault.TheVariants.{NotBuilt};
-ghost use Rattle.spu_image.specs.Linking.{IsOneFirst, IsLinked};
+ghost use Rattle.std.specs.Prelude.{◌≤◌, ℕ, List, length, All, IfErr, IfOk};
+ghost use Rattle.spu_word.specs.declared.limits.TheConstants.{MAX_OBJECTS, MAX_STACK_LIMIT};
+ghost use Rattle.spu_elf.specs.declared.objects.Object.{Object};
+ghost use Rattle.spu_elf.specs.WellFormed.{IsWellFormed};
+ghost use Rattle.spu_lift.specs.LiftFaults.{IsRefused as IsLiftRefused, Lifted};
+ghost use Rattle.spu_lift.specs.declared.program.Prog.{Prog};
+ghost use Rattle.spu_judge.specs.Answers.{IsRefused};
+ghost use Rattle.spu_image.specs.Linking.{IsJudgedFrom, IsJudgeFault, IsLinked, IsLinkFault};
 
-use crate::images::flat_exec;
+use crate::judged_linking::link_judged;
 use crate::outcome::{LinkFault, LinkOptions, Linked};
-use spu_elf::{Object, write_exec};
-use spu_layout::{lay_out, section_sizes};
-use spu_lift::{is_first, lift_first};
-use spu_plan::flat_plan;
+use spu_elf::Object;
+use spu_judge::{JudgeFault, Judged, judge_program};
+use spu_lift::{LiftFault, lift};
 use spu_word::Seq;
 use std::alloc::Global;
 
-/// The executable of an object of the first form.
-fn link_first(alloc: Global, object: &Object, limit: u32) -> Result<Linked, LinkFault>
-    requires first { IsFirst object.now }
-    requires limit { limit ≡ 16384 }
-    ensures linked { IfOk result (IsLinked (object.now ∷ []) limit) }
-    ensures not_built { (k : ℕ) → result ≡ Err (NotBuilt k) → ⊥ }
+/// What is told of objects that stand for no program.
+fn lift_refusal(fault: LiftFault) -> LinkFault
+    ensures { (objects : List Object) (entry : List ℕ) (limit : ℕ) → IsLiftRefused objects entry fault → IsJudgeFault objects entry limit result }
 {
-    let prog = lift_first(alloc, object)?;
-    let sizes = section_sizes(alloc, prog.code.as_slice())?;
-    let plan = flat_plan(alloc, prog.data_end as u32, sizes.as_slice())?;
-    let layout = lay_out(alloc, &prog, &plan, limit)?;
-    let exec = flat_exec(alloc, &prog, &layout, limit, &[])?;
-    let file = write_exec(alloc, &exec)?;
-    Ok(Linked {
-        exec,
-        file,
-        prog,
-        plan,
-        layout,
-    })
+    match fault {
+        LiftFault::NoEntry => LinkFault::Lift(LiftFault::NoEntry),
+        LiftFault::Symbol { kind, name } => LinkFault::Lift(LiftFault::Symbol { kind, name }),
+        LiftFault::Site {
+            kind,
+            object,
+            section,
+            offset,
+        } => LinkFault::Lift(LiftFault::Site {
+            kind,
+            object,
+            section,
+            offset,
+        }),
+        LiftFault::Word {
+            kind,
+            function,
+            offset,
+        } => LinkFault::Lift(LiftFault::Word {
+            kind,
+            function,
+            offset,
+        }),
+        LiftFault::OutOfMemory => LinkFault::OutOfMemory,
+    }
 }
 
-/// Links objects to an executable whose entry function and stack size the options give. For now it links one object,
-/// of the first form: one section of code that the global function `main` covers, with twelve instructions.
+/// What is told of a program that isn't judged.
+fn judge_refusal(fault: JudgeFault) -> LinkFault
+    ensures { (objects : List Object) (entry : List ℕ) (limit : ℕ) (p : Prog) → Lifted objects entry p → IsRefused p limit fault
+        → IsJudgeFault objects entry limit result }
+{
+    match fault {
+        JudgeFault::Frame { kind, name, offset } => LinkFault::Frame { kind, name, offset },
+        JudgeFault::Recursion(names) => LinkFault::Recursion(names),
+        JudgeFault::StackLimit { need, limit } => LinkFault::StackLimit { need, limit },
+        JudgeFault::OutOfMemory => LinkFault::OutOfMemory,
+    }
+}
+
+#[tactic(auto, using(crate::proofs::LinkAnswers::judged_from))]
+/// Judges the program that objects stand for, with this entry function and a stack of so many bytes: the program with its
+/// depths, frames and needs, or the least of L1 to L19, at its first place.
+pub fn judge(
+    alloc: Global,
+    objects: &Seq<Object>,
+    entry: &[u8],
+    limit: u32,
+) -> Result<Judged, LinkFault>
+    requires few { length objects.now ≤ MAX_OBJECTS }
+    requires formed { All IsWellFormed objects.now }
+    requires limit { limit ≤ MAX_STACK_LIMIT }
+    ensures judged { IfOk result (IsJudgedFrom objects.now entry.now limit) }
+    ensures fault { IfErr result (IsJudgeFault objects.now entry.now limit) }
+{
+    let prog = match lift(alloc, objects, entry) {
+        Ok(prog) => prog,
+        Err(fault) => return Err(lift_refusal(fault)),
+    };
+    match judge_program(alloc, prog, limit) {
+        Ok(judged) => Ok(judged),
+        Err(fault) => Err(judge_refusal(fault)),
+    }
+}
+
+#[tactic(auto, using(crate::proofs::LinkAnswers::few_globals, crate::proofs::LinkAnswers::linked_if))]
+/// Links objects to a flat executable whose entry function, stack and symbols the options give. A run of it is the run of
+/// the program that the objects stand for.
 ///
-/// `NotBuilt(0)` exactly where the objects aren't one of that form.
+/// Each of L1 to L21 comes exactly where it is the least that holds, at its first place.
 pub fn link(
     alloc: Global,
     objects: &Seq<Object>,
     options: &LinkOptions,
 ) -> Result<Linked, LinkFault>
-    requires entry { options.now.entry ≡ codes "main" }
-    requires limit { options.now.limit ≡ 16384 }
-    ensures linked { IfOk result (IsLinked objects.now options.now.limit) }
-    ensures not_built { (k : ℕ) → result ≡ Err (NotBuilt k) → (k ≡ 0) × (IsOneFirst objects.now → ⊥) }
+    requires few { length objects.now ≤ MAX_OBJECTS }
+    requires formed { All IsWellFormed objects.now }
+    requires limit { options.now.limit ≤ MAX_STACK_LIMIT }
+    ensures linked { IfOk result (IsLinked objects.now options.now) }
+    ensures fault { IfErr result (IsLinkFault objects.now options.now) }
 {
-    match objects.as_slice() {
-        [object] => if is_first(object) {
-            link_first(alloc, object, options.limit)
-        } else {
-            Err(LinkFault::NotBuilt(0))
-        },
-        [] | [_, _, ..] => Err(LinkFault::NotBuilt(0)),
-    }
+    let judged = judge(alloc, objects, options.entry.as_slice(), options.limit)?;
+    link_judged(alloc, judged, options.limit, options.stack_syms)
 }

@@ -8,7 +8,7 @@ ghost use Rattle.spu_layout.specs.Placing.{FitsFlat};
 ghost use Rattle.spu_image.specs.Filling.{IsFlatInput};
 ghost use Rattle.spu_image.specs.JudgedLinking.{IsPlanRefused};
 
-use crate::outcome::ImageFault;
+use crate::outcome::LinkFault;
 use spu_layout::section_sizes;
 use spu_lift::{CodeSection, Prog};
 use spu_plan::{Mode, Plan, PlanFault, PlanInput, make_plan};
@@ -54,7 +54,7 @@ fn flat_input(alloc: Global, p: &Prog, limit: u32) -> Result<PlanInput, OutOfMem
 }
 
 /// The plan of a program without overlays, or L20 where its image doesn't end below the stack.
-pub fn plan_flat(alloc: Global, p: &Prog, limit: u32) -> Result<Plan, ImageFault>
+pub fn plan_flat(alloc: Global, p: &Prog, limit: u32) -> Result<Plan, LinkFault>
     requires formed { IsWellFormed p.now }
     requires limit { limit ≤ MAX_STACK_LIMIT }
     ensures fits { IfOk result (λ plan. FitsFlat p.now plan limit) }
@@ -63,7 +63,7 @@ pub fn plan_flat(alloc: Global, p: &Prog, limit: u32) -> Result<Plan, ImageFault
     let input = flat_input(alloc, p, limit)?;
     match make_plan(alloc, &input) {
         Ok(plan) => Ok(plan),
-        Err(PlanFault::TooLarge { least, room }) => Err(ImageFault::TooLarge { least, room }),
-        Err(PlanFault::OutOfMemory) => Err(ImageFault::OutOfMemory),
+        Err(PlanFault::TooLarge { least, room }) => Err(LinkFault::TooLarge { least, room }),
+        Err(PlanFault::OutOfMemory) => Err(LinkFault::OutOfMemory),
     }
 }
