@@ -9,7 +9,7 @@ ghost use Rattle.spu_ls.specs.View.{state_of};
 
 use spu_elf::Symbol;
 use spu_ideal::{Ideal, IdealEnd};
-use spu_image::{Image, link_judged};
+use spu_image::{Linked, link_judged};
 use spu_isa::{Inst, Op};
 use spu_judge::judge_program;
 use spu_lift::{CodeSection, Function, Label, NORMAL_END, Operand, Part, Prog, SymInst, WordLabel};
@@ -161,7 +161,7 @@ fn program(alloc: Global) -> Result<Prog, OutOfMemory>
 }
 
 /// Its image with stack symbols, None where there is a fault.
-fn linked(alloc: Global) -> Result<Option<Image>, OutOfMemory>
+fn linked(alloc: Global) -> Result<Option<Linked>, OutOfMemory>
     ensures valid { IfOk result (λ o. IfSome o (λ i. IsValidExec i.exec)) }
     ensures file { IfOk result (λ o. IfSome o (λ i. i.file ≡ spell_exec i.exec)) }
 {
@@ -188,7 +188,7 @@ fn nothing(alloc: Global) -> Inputs
 
 /// The machine that runs an image.
 #[tactic(auto, using(spu_ls::proofs::Starting::no_steps))]
-fn loaded(alloc: Global, image: &Image) -> Option<Machine>
+fn loaded(alloc: Global, image: &Linked) -> Option<Machine>
     requires valid { IsValidExec image.now.exec }
     requires file { image.now.file ≡ spell_exec image.now.exec }
     ensures { IfSome result (λ m. (state_of m).steps ≡ 0) }

@@ -1,5 +1,7 @@
 pub mod Alike
+pub mod Checks
 pub mod FileLists
+pub mod FileNames
 pub mod Growing
 pub mod Links
 pub mod Loads
@@ -7,3 +9,4 @@ pub mod Places
 pub mod Members
 pub mod Seeing
 pub mod Sound
+pub mod Splitting

@@ -20,7 +20,10 @@ use Rattle.spu_ls.specs.Start.{start}
 use Rattle.spu_ls.specs.declared.ending.RunEnd.{RunEnd}
 use Rattle.spu_tool.specs.declared.made.Made.{Made}
 use Rattle.spu_tool.specs.FaultLines.{load_line}
-use Rattle.spu_tool.specs.Makes.{inputs_of, made, refused, run_text, RunsOrNot, status_of}
+use Rattle.spu_elf.specs.Executables.{exec_fault}
+use Rattle.spu_elf.specs.Spelling.{spell_exec}
+use Rattle.spu_elf.specs.Validity.{IsValidExec}
+use Rattle.spu_tool.specs.Makes.{LoadsNot, MakesRun, inputs_of, made, refused, run_text, RunsOrNot, status_of}
 
 -- each area has the name of its place
 named : (places : List AreaPlace) (files : List (List ℕ)) (i : ℕ) (a : Area) → slice_get (areas_of places files) i ≡ Some a → (p : AreaPlace) × (slice_get places i ≡ Some p) × (p.name ≡ a.name)
@@ -79,9 +82,17 @@ runs_if x bytes i budget s t end (Ok m) none es et ee h =
       is = subst (λ u. m ≡ made (status_of (end_of u.ended)) None (run_text u)) (subst (λ v. t ≡ steps budget v) es et) (subst (λ f. m ≡ made (status_of f) None (run_text t)) ee h);
     })
 
-pub refused_if : (x : Exec) (bytes : List ℕ) (i : Inputs) (budget : ℕ) (fault : LoadFault) (a : Result Made OutOfMemory)
-    → (fault ≡ loads.OutOfMemory) ⊎ (load_fault x bytes i ≡ Some fault) → IfOk a (λ m. m ≡ refused (load_line fault)) → IfOk a (λ m. fault ≢ loads.OutOfMemory)
-    → IfOk a (RunsOrNot x bytes i budget)
-refused_if x bytes i budget fault (Err e) h line told = tt
-refused_if x bytes i budget fault (Ok m) (inl memory) line told = absurd (told memory)
-refused_if x bytes i budget fault (Ok m) (inr is) line told = inr (record { fault = fault; first = is; is = line })
+pub refused_if : (P : Made → Type 0) (found : Option LoadFault) (fault : LoadFault) (a : Result Made OutOfMemory)
+    → (fault ≡ loads.OutOfMemory) ⊎ (found ≡ Some fault) → IfOk a (λ m. m ≡ refused (load_line fault)) → IfOk a (λ m. fault ≢ loads.OutOfMemory)
+    → IfOk a (λ m. P m ⊎ LoadsNot found m)
+refused_if P found fault (Err e) h line told = tt
+refused_if P found fault (Ok m) (inl memory) line told = absurd (told memory)
+refused_if P found fault (Ok m) (inr is) line told = inr (record { fault = fault; first = is; is = line })
+
+-- the executable that is run is the one that the bytes spell
+pub ran_if : (options : RunOptions) (name bytes : List ℕ) (files : List (List ℕ)) (x : Exec) (i : Inputs) (a : Result Made OutOfMemory)
+    → exec_fault bytes ≡ None → IsValidExec x × (spell_exec x ≡ bytes) → i ≡ inputs_of options files → IfOk a (RunsOrNot x bytes i options.steps)
+    → IfOk a (MakesRun options name bytes files)
+ran_if options name bytes files x i (Err e) read is given h = tt
+ran_if options name bytes files x i (Ok m) read is given h =
+    inl (record { read = read; exec = x; valid = is.0; spelled = is.1; made = subst (λ j. RunsOrNot x bytes j options.steps m) given h })

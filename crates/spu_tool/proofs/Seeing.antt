@@ -1,14 +1,12 @@
 -- What is seen before a command ends is what was seen before it read its files.
-use Rattle.std.proofs.Common.{◌≡◌, ◌≢◌, ℕ, List, Option, Some, None, [], ◌∷◌, ◌++◌, Result, Ok, Err, refl, sym, subst, inl, inr, take}
-use Rattle.std.proofs.lemmas.List.{append-nil}
-use Rattle.spu_io.specs.Outside.{Names, Last, GainedPrefix}
+use Rattle.std.proofs.Common.{◌≡◌, ℕ, List, Option, Result, sym, subst}
+use Rattle.spu_io.specs.Outside.{Names, Last}
 use Rattle.spu_tool.specs.declared.made.Made.{Made}
 use Rattle.spu_tool.specs.declared.status.Status.{Status}
-use Rattle.spu_tool.specs.declared.status.Status.TheVariants as status
 use Rattle.spu_tool.specs.declared.request.Action.{Action}
 use Rattle.spu_tool.specs.Arguments.{Asked}
 use Rattle.spu_tool.specs.Makes.{MakesBy}
-use Rattle.spu_tool.specs.Outcomes.{Seen, seen, Concludes, Outcome, OutcomeBy, IsFaulty, early, words_line}
+use Rattle.spu_tool.specs.Outcomes.{Seen, seen, Concludes, OutcomeBy}
 
 pub same_start : (m : Made) (output output' : Option (List ℕ)) (answer : Status) (held held' : Option Names) (faults faults' : ℕ) (last last' : Last) (written : Option (List ℕ)) (sink_faults : ℕ) (b : Seen)
     → output' ≡ output → held' ≡ held → faults' ≡ faults → last' ≡ last → Concludes m output' answer (seen held' faults' last' written sink_faults) b → Concludes m output answer (seen held faults last written sink_faults) b

@@ -1,24 +1,28 @@
 -- What the words ask for has its inputs, and sound options.
-use Rattle.std.proofs.Common.{◌≡◌, ℕ, ◌+◌, ◌==◌, ◌≤◌, lit≤, Bool, true, false, List, [], ◌∷◌, ◌++◌, length, map, Option, Some, None, Result, Ok, Err, refl, sym, subst, ap, ◌∙◌, ◌%◌, ◌<◌, suc, arith, unwrap_or, option_map}
+use Rattle.std.proofs.Common.{◌≡◌, ℕ, ◌+◌, ◌==◌, ◌≤◌, lit≤, Bool, true, false, List, [], ◌∷◌, ◌++◌, length, Option, Some, None, Result, Ok, Err, refl, sym, subst, ap, ◌∙◌, ◌%◌, ◌<◌, arith, option_map}
 use Rattle.std.specs.Prelude.{◌&&◌, not, nat_lt, nat_le, if◌then◌else◌}
 use Rattle.std.specs.List.{All, list_all}
 use Rattle.std.proofs.lemmas.List.Elements.{All-nil, All-cons}
 use Rattle.std.proofs.lemmas.Bool.Decides.{nat_tests}
 use Rattle.std.proofs.lemmas.Bool.{and_parts, leb-true, ltb-true}
+use borrow.Author.Tests.{eqb-true}
 use Rattle.std.proofs.lemmas.List.{length-append, length-map}
-use Rattle.spu_word.specs.declared.limits.TheConstants.{MAX_AREAS, MAX_MAIL}
+use Rattle.spu_word.specs.declared.limits.TheConstants.{MAX_AREAS, MAX_MAIL, MAX_STACK_LIMIT, QUAD_SIZE}
 use Rattle.spu_tool.specs.declared.options.OptionName.{OptionName}
-use Rattle.spu_tool.specs.declared.options.OptionName.TheVariants.{Steps, Mail, Area, Image}
+use Rattle.spu_tool.specs.declared.options.OptionName.TheVariants.{Steps, Mail, Area, Image, Stack, Entry, StackSyms}
 use Rattle.spu_tool.specs.declared.options.Options.{Options}
 use Rattle.spu_tool.specs.declared.command.Command.{Command}
-use Rattle.spu_tool.specs.declared.command.Command.TheVariants.{Assemble, Link, Map, Embed, Run}
+use Rattle.spu_tool.specs.declared.command.Command.TheVariants.{Assemble, Link, Map, Embed, Run, Check}
+use Rattle.spu_tool.specs.declared.request.Action.{Action}
 use Rattle.spu_tool.specs.declared.request.Action.TheVariants as action
 use Rattle.spu_tool.specs.Numbers.{bounded, number_of, number_within, word_of}
 use Rattle.spu_tool.specs.Lists.{members_of, is_word, words_of, mail_of}
 use Rattle.spu_tool.specs.Cutting.{cut_at}
-use Rattle.spu_tool.specs.Areas.{ArePlaced, AreaParts, area_word, has_room, is_placed, place_of}
-use Rattle.spu_tool.specs.Options.{AreSound, once, with_steps, with_mail, with_place, with_image, if_aligned, image_of, run_options, option_named}
-use Rattle.spu_tool.specs.Arguments.{Given, Asked, giving, with_area, with_option, with_named, with_parts, name_and_value, is_option, with_operand, with_word, with_words, nothing_given, of_two, asked_embed, asked_by, or_missing, asked_with, asked_after, asked, most_operands, has_option, is_operand, is_symbol_name, command_named}
+use Rattle.spu_tool.specs.Areas.{AreaParts, area_word, has_room, is_placed, place_of}
+use Rattle.spu_tool.specs.Options.{AreLinkSound, AreSound, once, with_steps, with_mail, with_place, with_image, with_stack, with_entry, with_stack_syms, if_multiple, image_of, stack_of, run_options, link_options, option_named}
+use Rattle.spu_tool.specs.Names.{is_symbol_name, symbol_name}
+use Rattle.spu_image.specs.declared.outcome.LinkOptions.{LinkOptions}
+use Rattle.spu_tool.specs.Arguments.{Given, Asked, with_area, with_option, with_named, with_parts, name_and_value, is_option, with_operand, with_word, with_words, nothing_given, of_two, asked_embed, asked_link, asked_read, asked_by, or_missing, asked_with, asked_after, asked, most_operands, has_option, is_operand, command_named, text_in}
 use Rattle.spu_tool.specs.declared.areas.AreaPlace.{AreaPlace}
 use Rattle.spu_tool.specs.declared.options.TheConstants.{MAX_IMAGE}
 use Rattle.spu_elf.specs.declared.constants.TheConstants.{SEGMENT_ALIGN}
@@ -35,16 +39,19 @@ Named Assemble operands = Unit {0}
 Named Link operands = Unit {0}
 Named Map operands = Unit {0}
 Named Run operands = Unit {0}
+Named Check operands = Unit {0}
 
 -- the options are sound, and each area has a file
 record Sound (command : Command) (given : Given) : Type 0 where
   options : AreSound (run_options given.options)
+  link : AreLinkSound (link_options given.options)
+  few : length given.operands ≤ most_operands command
   files : length given.files ≡ length given.options.places
   named : Named command given.operands
 
 -- other options of the same areas
-re_sound : (command : Command) (given : Given) (o : Options) → Sound command given → AreSound (run_options o) → o.places ≡ given.options.places → Sound command (record given { options = o })
-re_sound command given o h sound same = record { options = sound; files = h.files ∙ ap length (sym same); named = h.named }
+re_sound : (command : Command) (given : Given) (o : Options) → Sound command given → AreSound (run_options o) → AreLinkSound (link_options o) → o.places ≡ given.options.places → Sound command (record given { options = o })
+re_sound command given o h sound link same = record { options = sound; link = link; few = h.few; files = h.files ∙ ap length (sym same); named = h.named }
 
 -- ---- what a result says of what it came from
 
@@ -73,16 +80,25 @@ mail_few list mail e = step (nat_le (length (members_of list)) MAX_MAIL && list_
         subst (λ (m : List ℕ). length m ≤ MAX_MAIL) same (omega (arith, size, few))
     step false all is = absurd (cc)
 
-aligned_is : (o : Option ℕ) (n : ℕ) → if_aligned o ≡ Some n → (o ≡ Some n) × (n % SEGMENT_ALIGN ≡ 0)
-aligned_is None n e = absurd (cc)
-aligned_is (Some m) n e = step (m % SEGMENT_ALIGN == 0) refl e
+multiple_is : (step : ℕ) (o : Option ℕ) (n : ℕ) → if_multiple step o ≡ Some n → (o ≡ Some n) × (n % step ≡ 0)
+multiple_is step None n e = absurd (cc)
+multiple_is step (Some m) n e = by_test (m % step == 0) refl e
   where
-    step : (b : Bool) → (m % SEGMENT_ALIGN == 0) ≡ b → (if b then Some m else None) ≡ Some n → (Some m ≡ Some n) × (n % SEGMENT_ALIGN ≡ 0)
-    step true is e' =
+    by_test : (b : Bool) → (m % step == 0) ≡ b → (if b then Some m else None) ≡ Some n → (Some m ≡ Some n) × (n % step ≡ 0)
+    by_test true is e' =
         let same : m ≡ n = cc in
-        let zero : m % SEGMENT_ALIGN ≡ 0 = grind (arith, nat_tests, is) in
-        (ap Some same, subst (λ k. k % SEGMENT_ALIGN ≡ 0) same zero)
-    step false is e' = absurd (cc)
+        let zero : m % step ≡ 0 = eqb-true (m % step) 0 is in
+        (ap Some same, subst (λ k. k % step ≡ 0) same zero)
+    by_test false is e' = absurd (cc)
+
+-- `--stack-syms` is given
+syms_is : (before : Options) (value : Option (List ℕ)) (o : Options) → with_stack_syms before value ≡ Some o → record before { stack_syms = true } ≡ o
+syms_is before (Some value) o e = absurd (cc)
+syms_is before None o e = by_flag before.stack_syms e
+  where
+    by_flag : (b : Bool) → (if b then None else Some (record before { stack_syms = true })) ≡ Some o → record before { stack_syms = true } ≡ o
+    by_flag true e' = absurd (cc)
+    by_flag false e' = cc
 
 within_is : (most : ℕ) (o : Option ℕ) (n : ℕ) → bounded most o ≡ Some n → n ≤ most
 within_is most None n e = absurd (cc)
@@ -106,6 +122,8 @@ area_sound command given (Some a) g e h = step (has_room given.options.places a.
         let files = length-append given.files (a.file ∷ []) in
         let old = h.files in
         subst (Sound command) same (record {
+          link = record { whole = h.link.whole; low = h.link.low };
+          few = h.few;
           options = record {
             mail = h.options.mail;
             few = omega arith;
@@ -118,29 +136,44 @@ area_sound command given (Some a) g e h = step (has_room given.options.places a.
         })
     step false is e' = absurd (cc)
 
-option_sound : (command : Command) (given : Given) (name : OptionName) (value : List ℕ) (g : Given) → with_option given name value ≡ Some g → Sound command given → Sound command g
+option_sound : (command : Command) (given : Given) (name : OptionName) (value : Option (List ℕ)) (g : Given) → with_option given name value ≡ Some g → Sound command given → Sound command g
 option_sound command given Steps value g e h =
-    let o = mapped (λ (x : Options). record given { options = x }) (with_steps given.options value) g e in
-    let n = mapped (λ (k : ℕ). record given.options { steps = Some k }) (once given.options.steps (word_of value)) o.0 o.1 in
+    let o = mapped (λ (x : Options). record given { options = x }) (with_steps given.options (text_in value)) g e in
+    let n = mapped (λ (k : ℕ). record given.options { steps = Some k }) (once given.options.steps (word_of (text_in value))) o.0 o.1 in
     subst (Sound command) (ap (λ (x : Options). record given { options = x }) n.2 ∙ o.2)
     (re_sound command given (record given.options { steps = Some n.0 }) h
-    (record { mail = h.options.mail; few = h.options.few; placed = h.options.placed; aligned = h.options.aligned; near = h.options.near }) refl)
+    (record { mail = h.options.mail; few = h.options.few; placed = h.options.placed; aligned = h.options.aligned; near = h.options.near }) h.link refl)
 option_sound command given Mail value g e h =
-    let o = mapped (λ (x : Options). record given { options = x }) (with_mail given.options value) g e in
-    let m = mapped (λ (ws : List ℕ). record given.options { mail = Some ws }) (once given.options.mail (mail_of value)) o.0 o.1 in
+    let o = mapped (λ (x : Options). record given { options = x }) (with_mail given.options (text_in value)) g e in
+    let m = mapped (λ (ws : List ℕ). record given.options { mail = Some ws }) (once given.options.mail (mail_of (text_in value))) o.0 o.1 in
     subst (Sound command) (ap (λ (x : Options). record given { options = x }) m.2 ∙ o.2)
     (re_sound command given (record given.options { mail = Some m.0 }) h
-    (record { mail = mail_few value m.0 (once_is given.options.mail (mail_of value) m.0 m.1); few = h.options.few; placed = h.options.placed; aligned = h.options.aligned; near = h.options.near }) refl)
-option_sound command given Area value g e h = area_sound command given (area_word value) g e h
+    (record { mail = mail_few (text_in value) m.0 (once_is given.options.mail (mail_of (text_in value)) m.0 m.1); few = h.options.few; placed = h.options.placed; aligned = h.options.aligned; near = h.options.near }) h.link refl)
+option_sound command given Area value g e h = area_sound command given (area_word (text_in value)) g e h
 option_sound command given Image value g e h =
-    let o = mapped (λ (x : Options). record given { options = x }) (with_image given.options value) g e in
-    let n = mapped (λ (k : ℕ). record given.options { image = Some k }) (once given.options.image (image_of value)) o.0 o.1 in
-    let a = aligned_is (number_within MAX_IMAGE value) n.0 (once_is given.options.image (image_of value) n.0 n.1) in
+    let o = mapped (λ (x : Options). record given { options = x }) (with_image given.options (text_in value)) g e in
+    let n = mapped (λ (k : ℕ). record given.options { image = Some k }) (once given.options.image (image_of (text_in value))) o.0 o.1 in
+    let a = multiple_is SEGMENT_ALIGN (number_within MAX_IMAGE (text_in value)) n.0 (once_is given.options.image (image_of (text_in value)) n.0 n.1) in
     subst (Sound command) (ap (λ (x : Options). record given { options = x }) n.2 ∙ o.2)
     (re_sound command given (record given.options { image = Some n.0 }) h
-    (record { mail = h.options.mail; few = h.options.few; placed = h.options.placed; aligned = a.1; near = within_is MAX_IMAGE (number_of value) n.0 a.0 }) refl)
+    (record { mail = h.options.mail; few = h.options.few; placed = h.options.placed; aligned = a.1; near = within_is MAX_IMAGE (number_of (text_in value)) n.0 a.0 }) h.link refl)
+option_sound command given Stack value g e h =
+    let o = mapped (λ (x : Options). record given { options = x }) (with_stack given.options (text_in value)) g e in
+    let n = mapped (λ (k : ℕ). record given.options { stack = Some k }) (once given.options.stack (stack_of (text_in value))) o.0 o.1 in
+    let a = multiple_is QUAD_SIZE (number_within MAX_STACK_LIMIT (text_in value)) n.0 (once_is given.options.stack (stack_of (text_in value)) n.0 n.1) in
+    subst (Sound command) (ap (λ (x : Options). record given { options = x }) n.2 ∙ o.2)
+    (re_sound command given (record given.options { stack = Some n.0 }) h h.options (record { whole = a.1; low = within_is MAX_STACK_LIMIT (number_of (text_in value)) n.0 a.0 }) refl)
+option_sound command given Entry value g e h =
+    let o = mapped (λ (x : Options). record given { options = x }) (with_entry given.options (text_in value)) g e in
+    let n = mapped (λ (name : List ℕ). record given.options { entry = Some name }) (once given.options.entry (symbol_name (text_in value))) o.0 o.1 in
+    subst (Sound command) (ap (λ (x : Options). record given { options = x }) n.2 ∙ o.2)
+    (re_sound command given (record given.options { entry = Some n.0 }) h h.options (record { whole = h.link.whole; low = h.link.low }) refl)
+option_sound command given StackSyms value g e h =
+    let o = mapped (λ (x : Options). record given { options = x }) (with_stack_syms given.options value) g e in
+    subst (Sound command) (ap (λ (x : Options). record given { options = x }) (syms_is given.options value o.0 o.1) ∙ o.2)
+    (re_sound command given (record given.options { stack_syms = true }) h h.options (record { whole = h.link.whole; low = h.link.low }) refl)
 
-named_sound : (command : Command) (given : Given) (name : Option OptionName) (value : List ℕ) (g : Given) → with_named command given name value ≡ Some g → Sound command given → Sound command g
+named_sound : (command : Command) (given : Given) (name : Option OptionName) (value : Option (List ℕ)) (g : Given) → with_named command given name value ≡ Some g → Sound command given → Sound command g
 named_sound command given None value g e h = absurd (cc)
 named_sound command given (Some name) value g e h = option_sound command given name value g (passed (has_option command name) (with_option given name value) g e) h
 
@@ -171,6 +204,7 @@ named_more Assemble operands word e h = tt
 named_more Link operands word e h = tt
 named_more Map operands word e h = tt
 named_more Run operands word e h = tt
+named_more Check operands word e h = tt
 named_more Embed [] word e h = name_valid word e
 named_more Embed (x ∷ xs) word e h = h
 
@@ -181,7 +215,10 @@ operand_sound command given word g e h = step (nat_lt (length given.operands) (m
     step true all is =
         let same : record given { operands = given.operands ++ word ∷ [] } ≡ g = cc in
         let own : is_operand command (length given.operands) word ≡ true = right_true (nat_lt (length given.operands) (most_operands command)) _ all in
-        subst (Sound command) same (record { options = h.options; files = h.files; named = named_more command given.operands word own h.named })
+        let own_few : nat_lt (length given.operands) (most_operands command) ≡ true = left_true (nat_lt (length given.operands) (most_operands command)) _ all in
+        let less : length given.operands < most_operands command = ltb-true (length given.operands) (most_operands command) own_few in
+        let more = length-append given.operands (word ∷ []) in
+        subst (Sound command) same (record { options = h.options; link = h.link; few = omega (arith, less, more); files = h.files; named = named_more command given.operands word own h.named })
     step false all is = absurd (cc)
 
 word_sound : (command : Command) (given : Given) (word : List ℕ) (g : Given) → with_word command given word ≡ Some g → Sound command given → Sound command g
@@ -203,13 +240,19 @@ words_sound command given number (word ∷ words) g e h = step (with_word comman
     step None is e' rest = absurd (cc)
     step (Some more) is e' rest = rest more e' (word_sound command given word more is h)
 
+abbrev Complete : Asked → Type 0
+Complete r = IsComplete r.action (length r.inputs)
+
+link_complete : (operands : List (List ℕ)) (options : LinkOptions) (r : Asked) → length operands ≤ most_operands Link → AreLinkSound options → asked_link operands options ≡ Some r → Complete r
+link_complete [] options r few sound e = absurd (cc)
+link_complete (output ∷ []) options r few sound e = absurd (cc)
+link_complete (output ∷ input ∷ inputs) options r few sound e =
+    let same : record { inputs = input ∷ inputs; output = Some output; action = action.Link options } ≡ r = cc in subst Complete same (omega arith, omega (arith, few), sound)
+
 two_is : (first second : Option (List ℕ)) (f : List ℕ → List ℕ → Asked) (r : Asked) → of_two first second f ≡ Some r → (a : List ℕ) × (b : List ℕ) × (f a b ≡ r)
 two_is None second f r e = absurd (cc)
 two_is (Some a) None f r e = absurd (cc)
 two_is (Some a) (Some b) f r e = (a, b, (cc))
-
-abbrev Complete : Asked → Type 0
-Complete r = IsComplete r.action (length r.inputs)
 
 one : (name : List ℕ) → 1 ≤ length (name ∷ [])
 one name = lit≤ tt
@@ -221,12 +264,34 @@ embed_complete (name ∷ input ∷ []) r h e = absurd (cc)
 embed_complete (name ∷ input ∷ output ∷ rest) r h e =
     let same : record { inputs = input ∷ []; output = Some output; action = action.Embed name } ≡ r = cc in subst Complete same (one input, h)
 
+-- operands that are read, of which there is one, and other files
+read_is : (operands files : List (List ℕ)) (wanted : Action) (r : Asked) → asked_read operands files wanted ≡ Some r
+    → (1 ≤ length operands) × (record { inputs = operands ++ files; output = None; action = wanted } ≡ r)
+read_is [] files wanted r e = absurd (cc)
+read_is (input ∷ inputs) files wanted r e = (omega arith, (cc))
+
 by_command : (command : Command) (given : Given) (r : Asked) → Sound command given → asked_by command given ≡ Some r → Complete r
 by_command Assemble given r h e = let t = two_is _ _ _ r e in subst Complete t.2 (one t.0)
-by_command Link given r h e = let t = two_is _ _ _ r e in subst Complete t.2 (one t.1)
-by_command Map given r h e = let t = mapped _ _ r e in subst Complete t.2 (one t.0)
+by_command Link given r h e = link_complete given.operands (link_options given.options) r h.few h.link e
+by_command Map given r h e =
+    let t = read_is given.operands [] _ r e in
+    let more = length-append given.operands [] in
+    let some = t.0 in
+    subst Complete t.1 (omega (arith, more, some))
 by_command Embed given r h e = embed_complete given.operands r h.named e
-by_command Run given r h e = let t = mapped _ _ r e in subst Complete t.2 (omega (arith, h.files), h.options)
+by_command Run given r h e =
+    let t = read_is given.operands given.files _ r e in
+    let more = length-append given.operands given.files in
+    let few = h.few in
+    let files = h.files in
+    let some = t.0 in
+    subst Complete t.1 (omega (arith, more, few, files, some), h.options)
+by_command Check given r h e =
+    let t = read_is given.operands given.files _ r e in
+    let more = length-append given.operands given.files in
+    let few = h.few in
+    let files = h.files in
+    subst Complete t.1 (omega (arith, more, files), omega (arith, more, few, files), (h.link, h.options))
 
 asked_is : (o : Option Asked) (n : ℕ) (r : Asked) → or_missing o n ≡ Ok r → o ≡ Some r
 asked_is None n r e = absurd (cc)
@@ -238,9 +303,10 @@ none Link = tt
 none Map = tt
 none Embed = tt
 none Run = tt
+none Check = tt
 
 nothing_sound : (command : Command) → Sound command nothing_given
-nothing_sound command = record { options = record { mail = lit≤ tt; few = lit≤ tt; placed = λ i j p q a b same. absurd (no p a); aligned = refl; near = lit≤ tt }; files = refl; named = none command }
+nothing_sound command = record { options = record { mail = lit≤ tt; few = lit≤ tt; placed = λ i j p q a b same. absurd (no p a); aligned = refl; near = lit≤ tt }; link = record { whole = refl; low = lit≤ tt }; few = omega arith; files = refl; named = none command }
   where
     no : (p : AreaPlace) → None ≡ Some p → ⊥
     no p e = cc

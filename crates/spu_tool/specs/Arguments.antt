@@ -1,17 +1,16 @@
 -- The words of a command line: first a command, and then its operands and options in any order. They are read from left to
 -- right, each by those before it; the fault is at the first that is faulty, counted from 1, or behind the last where words are
 -- missing.
-use Rattle.std.specs.Prelude.{◌≡◌, ℕ, ◌+◌, ◌==◌, Bool, true, false, List, [], ◌∷◌, ◌++◌, length, drop, codes, take, nat_lt, nat_le, not, ◌&&◌, ◌||◌, if◌then◌else◌, Option, Some, None, Result, Ok, Err, slice_get, option_map, map}
-use Rattle.std.specs.List.{list_all}
+use Rattle.std.specs.Prelude.{◌≡◌, ℕ, ◌+◌, ◌==◌, Bool, true, false, List, [], ◌∷◌, ◌++◌, length, codes, take, nat_lt, not, ◌&&◌, ◌||◌, if◌then◌else◌, Option, Some, None, Result, Ok, Err, slice_get, option_map, unwrap_or, map}
 use Rattle.std.specs.Str.{bytes_eq}
-use Rattle.spu_word.specs.declared.limits.TheConstants.{MAX_NAME_SIZE}
-use Rattle.spu_elf.specs.Validity.{is_printed}
+use Rattle.spu_word.specs.declared.limits.TheConstants.{MAX_OBJECTS}
+use Rattle.spu_image.specs.declared.outcome.LinkOptions.{LinkOptions}
 use Rattle.std.specs.Borrow.{Bor}
 use Rattle.spu_io.specs.NameTable.{pointed_to}
 use Rattle.spu_tool.specs.declared.command.Command.{Command}
-use Rattle.spu_tool.specs.declared.command.Command.TheVariants.{Assemble, Link, Map, Embed, Run}
+use Rattle.spu_tool.specs.declared.command.Command.TheVariants.{Assemble, Link, Map, Embed, Run, Check}
 use Rattle.spu_tool.specs.declared.options.OptionName.{OptionName}
-use Rattle.spu_tool.specs.declared.options.OptionName.TheVariants.{Steps, Mail, Area, Image}
+use Rattle.spu_tool.specs.declared.options.OptionName.TheVariants.{Steps, Mail, Area, Image, Stack, Entry, StackSyms}
 use Rattle.spu_tool.specs.declared.options.Options.{Options}
 use Rattle.spu_tool.specs.declared.arguments.ParseFault.{ParseFault}
 use Rattle.spu_tool.specs.declared.arguments.ParseFault.TheVariants as faults
@@ -20,7 +19,8 @@ use Rattle.spu_tool.specs.declared.request.Action.{Action}
 use Rattle.spu_tool.specs.declared.request.Action.TheVariants as action
 use Rattle.spu_tool.specs.Cutting.{cut_at}
 use Rattle.spu_tool.specs.Areas.{AreaParts, area_word, has_room}
-use Rattle.spu_tool.specs.Options.{option_named, no_options, with_steps, with_mail, with_place, with_image, run_options}
+use Rattle.spu_tool.specs.Names.{is_symbol_name}
+use Rattle.spu_tool.specs.Options.{option_named, no_options, with_steps, with_mail, with_place, with_image, with_stack, with_entry, with_stack_syms, run_options, link_options, check_options}
 
 -- ---- the commands
 
@@ -31,30 +31,38 @@ command_named word =
     if bytes_eq word (codes "map") then Some Map else
     if bytes_eq word (codes "embed") then Some Embed else
     if bytes_eq word (codes "run") then Some Run else
+    if bytes_eq word (codes "check") then Some Check else
     None
 
 -- how many operands each has at most
 abbrev pub most_operands : Command → ℕ
 most_operands Assemble = 2
-most_operands Link = 2
+most_operands Link = MAX_OBJECTS + 1
 most_operands Map = 1
 most_operands Embed = 3
 most_operands Run = 1
+most_operands Check = MAX_OBJECTS
 
 -- which options each has
 abbrev pub has_option : Command → OptionName → Bool
 has_option Assemble name = false
-has_option Link name = false
+has_option Link Stack = true
+has_option Link Entry = true
+has_option Link StackSyms = true
+has_option Link _ = false
 has_option Map name = false
 has_option Embed name = false
 has_option Run Steps = true
 has_option Run Mail = true
 has_option Run Area = true
 has_option Run Image = true
-
--- a name of a symbol has 1 to 1,023 bytes, each from 33 to 126
-abbrev pub is_symbol_name : List ℕ → Bool
-is_symbol_name word = not (length word == 0) && (nat_le (length word) MAX_NAME_SIZE && list_all is_printed word)
+has_option Run _ = false
+has_option Check Stack = true
+has_option Check Entry = true
+has_option Check Steps = true
+has_option Check Mail = true
+has_option Check Area = true
+has_option Check _ = false
 
 -- which words may be the operand of an index, counted from 0: the first of `embed` names a symbol
 abbrev pub is_operand : Command → ℕ → List ℕ → Bool
@@ -63,6 +71,7 @@ is_operand Link index word = true
 is_operand Map index word = true
 is_operand Embed index word = not (index == 0) || is_symbol_name word
 is_operand Run index word = true
+is_operand Check index word = true
 
 -- ---- the words after a command
 
@@ -85,30 +94,37 @@ with_area given (Some a) =
     if has_room given.options.places a.name
     then Some (record given { files = given.files ++ a.file ∷ []; options = with_place given.options a.name a.ea }) else None
 
+-- a value that is missing is empty
+abbrev pub text_in : Option (List ℕ) → List ℕ
+text_in value = unwrap_or value []
+
 -- an option with its value, one line each
-abbrev pub with_option : Given → OptionName → List ℕ → Option Given
-with_option given Steps value = giving given (with_steps given.options value)
-with_option given Mail value = giving given (with_mail given.options value)
-with_option given Area value = with_area given (area_word value)
-with_option given Image value = giving given (with_image given.options value)
+abbrev pub with_option : Given → OptionName → Option (List ℕ) → Option Given
+with_option given Steps value = giving given (with_steps given.options (text_in value))
+with_option given Mail value = giving given (with_mail given.options (text_in value))
+with_option given Area value = with_area given (area_word (text_in value))
+with_option given Image value = giving given (with_image given.options (text_in value))
+with_option given Stack value = giving given (with_stack given.options (text_in value))
+with_option given Entry value = giving given (with_entry given.options (text_in value))
+with_option given StackSyms value = giving given (with_stack_syms given.options value)
 
 -- an option is one that the command has
-abbrev pub with_named : Command → Given → Option OptionName → List ℕ → Option Given
+abbrev pub with_named : Command → Given → Option OptionName → Option (List ℕ) → Option Given
 with_named command given None value = None
 with_named command given (Some name) value = if has_option command name then with_option given name value else None
 
--- it begins with `--`; its name is the part before the first `=`, or all of it, and its value the part after
+-- it begins with `--`; its name is the part before the first `=`, and its value the part after; without `=` all of it is its name
 abbrev pub is_option : List ℕ → Bool
 is_option word = bytes_eq (take 2 word) (codes "--")
 
-abbrev pub name_and_value : List ℕ → Option (List ℕ × List ℕ) → List ℕ × List ℕ
-name_and_value word None = (word, [])
-name_and_value word (Some parts) = parts
+abbrev pub name_and_value : List ℕ → Option (List ℕ × List ℕ) → List ℕ × Option (List ℕ)
+name_and_value word None = (word, None)
+name_and_value word (Some parts) = (parts.0, Some parts.1)
 
-abbrev pub parts_in : List ℕ → List ℕ × List ℕ
+abbrev pub parts_in : List ℕ → List ℕ × Option (List ℕ)
 parts_in word = name_and_value word (cut_at 61 word)
 
-abbrev pub with_parts : Command → Given → List ℕ × List ℕ → Option Given
+abbrev pub with_parts : Command → Given → List ℕ × Option (List ℕ) → Option Given
 with_parts command given parts = with_named command given (option_named parts.0) parts.1
 
 abbrev pub with_operand : Command → Given → List ℕ → Option Given
@@ -156,10 +172,12 @@ asked_assemble operands =
     of_two (slice_get operands 0) (slice_get operands 1)
     (λ input output. record { inputs = input ∷ []; output = Some output; action = action.Assemble })
 
-abbrev pub asked_link : List (List ℕ) → Option Asked
-asked_link operands =
-    of_two (slice_get operands 0) (slice_get operands 1)
-    (λ output input. record { inputs = input ∷ []; output = Some output; action = action.Link })
+-- the output, and then the objects
+abbrev pub asked_link : List (List ℕ) → LinkOptions → Option Asked
+asked_link [] options = None
+asked_link (output ∷ []) options = None
+asked_link (output ∷ input ∷ inputs) options =
+    Some (record { inputs = input ∷ inputs; output = Some output; action = action.Link options })
 
 abbrev pub asked_embed : List (List ℕ) → Option Asked
 asked_embed [] = None
@@ -167,17 +185,18 @@ asked_embed (name ∷ []) = None
 asked_embed (name ∷ input ∷ []) = None
 asked_embed (name ∷ input ∷ output ∷ rest) = Some (record { inputs = input ∷ []; output = Some output; action = action.Embed name })
 
--- the executable is read, and then the files of areas; none is written
+-- the operands are read, and then the files of areas; none is written
 abbrev pub asked_read : List (List ℕ) → List (List ℕ) → Action → Option Asked
-asked_read operands files wanted =
-    option_map (λ input. record { inputs = input ∷ files; output = None; action = wanted }) (slice_get operands 0)
+asked_read [] files wanted = None
+asked_read (input ∷ inputs) files wanted = Some (record { inputs = (input ∷ inputs) ++ files; output = None; action = wanted })
 
 abbrev pub asked_by : Command → Given → Option Asked
 asked_by Assemble given = asked_assemble given.operands
-asked_by Link given = asked_link given.operands
+asked_by Link given = asked_link given.operands (link_options given.options)
 asked_by Map given = asked_read given.operands [] action.Map
 asked_by Embed given = asked_embed given.operands
 asked_by Run given = asked_read given.operands given.files (action.Run (run_options given.options))
+asked_by Check given = asked_read given.operands given.files (action.Check (check_options given.options))
 
 -- where words are missing the fault is behind the last
 abbrev pub or_missing : Option Asked → ℕ → Result Asked ℕ

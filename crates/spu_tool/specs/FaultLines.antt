@@ -1,5 +1,5 @@
 -- The lines of faults: the number and the name of each, and where it is.
-use Rattle.std.specs.Prelude.{ℕ, List, ◌++◌, ◌∷◌, [], codes}
+use Rattle.std.specs.Prelude.{ℕ, List, ◌++◌, [], codes}
 use Rattle.std.specs.Fmt.{decimal}
 use Rattle.spu_asm.specs.declared.faults.AsmKind.{AsmKind}
 use Rattle.spu_asm.specs.declared.faults.AsmKind.TheVariants as asm
@@ -42,10 +42,6 @@ asm_line kind line = asm_name kind ++ codes " " ++ decimal line ++ codes "\n"
 -- a file's fault, at an offset; the file is named as the words name it
 abbrev pub elf_line : ElfKind → List ℕ → ℕ → List ℕ
 elf_line kind file offset = elf_name kind ++ codes " " ++ file ++ codes " " ++ decimal offset ++ codes "\n"
-
--- an object that isn't of the first form
-abbrev pub form_line : List ℕ → List ℕ
-form_line file = codes "L0 NotBuilt " ++ file ++ codes "\n"
 
 -- why an executable could not be loaded; want of memory has no line
 abbrev pub name_line : List ℕ → List ℕ → List ℕ

@@ -3,8 +3,10 @@ pub mod Numbers
 pub mod Lists
 pub mod Cutting
 pub mod Areas
+pub mod Names
 pub mod Options
 pub mod Arguments
 pub mod FaultLines
+pub mod LinkLines
 pub mod Makes
 pub mod Outcomes

@@ -1,5 +1,5 @@
 -- What a command makes of the bytes of its files: a status, an output file where it has one, and a text.
-use Rattle.std.specs.Prelude.{◌≡◌, ℕ, ◌+◌, ◌-◌, ◌^◌, ◌<◌, ◌≤◌, ◌/◌, ◌%◌, ◌++◌, ◌∷◌, [], ◌⊎◌, ◌↔◌, Bool, true, false, nat_lt, ◌==◌, if◌then◌else◌, List, length, take, drop, slice_index_or, Option, Some, None, codes}
+use Rattle.std.specs.Prelude.{◌≡◌, ◌≢◌, ℕ, ◌+◌, ◌-◌, ◌*◌, ◌<◌, ◌≤◌, ◌/◌, ◌%◌, ◌++◌, ◌∷◌, [], ◌⊎◌, ◌↔◌, Bool, true, false, nat_lt, ◌==◌, if◌then◌else◌, List, length, take, drop, map, All, slice_index_or, Option, Some, None, unwrap_or, Result, Ok, Err, codes}
 use Rattle.std.specs.List.{flat_map}
 use Rattle.std.specs.Fmt.{decimal}
 use Rattle.std.specs.Str.{bytes_eq}
@@ -10,12 +10,29 @@ use Rattle.spu_elf.specs.declared.faults.ElfKind.{ElfKind}
 use Rattle.spu_elf.specs.declared.faults.ElfFault.{ElfFault}
 use Rattle.spu_elf.specs.declared.faults.ElfFault.TheVariants as faults
 use Rattle.spu_elf.specs.Reading.{object_fault, object_in}
-use Rattle.spu_elf.specs.declared.executables.Segment.{Segment}
-use Rattle.spu_lift.specs.FirstForm.{IsFirst}
+use Rattle.spu_elf.specs.WellFormed.{IsWellFormed}
 use Rattle.spu_elf.specs.Spelling.{spell}
-use Rattle.spu_tool.specs.FaultLines.{asm_line, elf_line, form_line, load_line, cesof_line}
+use Rattle.spu_tool.specs.FaultLines.{asm_line, elf_line, load_line, cesof_line}
 use Rattle.spu_image.specs.declared.outcome.Linked.{Linked}
-use Rattle.spu_image.specs.Linking.{IsLinked}
+use Rattle.spu_image.specs.declared.outcome.LinkFault.{LinkFault}
+use Rattle.spu_image.specs.declared.outcome.LinkFault.TheVariants as links
+use Rattle.spu_image.specs.declared.outcome.LinkOptions.{LinkOptions}
+use Rattle.spu_image.specs.Linking.{IsJudgedFrom, IsJudgeFault, IsLinked, IsLinkFault}
+use Rattle.spu_map.specs.Stacks.{stack_text}
+use Rattle.spu_graph.specs.Known.{need_of}
+use Rattle.spu_lift.specs.declared.program.Prog.{Prog}
+use Rattle.spu_frame.specs.Found.{frame_at}
+use Rattle.spu_judge.specs.declared.outcome.Judged.{Judged}
+use Rattle.spu_judge.specs.Answers.{name_of}
+use Rattle.spu_ideal.specs.declared.ending.IdealEnd.{IdealEnd}
+use Rattle.spu_ideal.specs.declared.ending.IdealEnd.TheVariants as symbolic
+use Rattle.spu_ideal.specs.declared.ending.Reason.{Reason}
+use Rattle.spu_ideal.specs.declared.ending.Reason.TheVariants as reason
+use Rattle.spu_ideal.specs.State.{Sym}
+use Rattle.spu_ideal.specs.Ends.{end_of as ideal_end_of}
+use Rattle.spu_ideal.specs.Loading.{load_fault as ideal_fault}
+use Rattle.spu_ideal.specs.Machine.{run}
+use Rattle.spu_tool.specs.LinkLines.{link_line}
 use Rattle.spu_elf.specs.declared.executables.Exec.{Exec}
 use Rattle.spu_elf.specs.Executables.{exec_fault}
 use Rattle.spu_elf.specs.Validity.{IsName, IsValidExec}
@@ -34,17 +51,17 @@ use Rattle.spu_ls.specs.Loading.{load_fault}
 use Rattle.spu_ls.specs.Ends.{end_of}
 use Rattle.spu_ls.specs.declared.ending.RunEnd.{RunEnd}
 use Rattle.spu_ls.specs.declared.ending.RunEnd.TheVariants as ending
-use Rattle.spu_word.specs.declared.limits.TheConstants.{STACK_TOP, DATA_START, MAX_FILE_SIZE}
+use Rattle.spu_word.specs.declared.limits.TheConstants.{STACK_TOP, MAX_FILE_SIZE, MAX_OBJECTS, WORD_SIZE}
 use Rattle.spu_cesof.specs.Embedding.{Embeds, embedding, entry_names}
 use Rattle.spu_cesof.specs.Unpacking.{cesof_fault, image_in}
 use Rattle.spu_cesof.specs.declared.faults.CesofFault.{CesofFault}
 use Rattle.spu_cesof.specs.declared.faults.CesofFault.TheVariants as cesof
-use Rattle.spu_tool.specs.declared.link_command.TheConstants.{DEFAULT_LIMIT}
 use Rattle.spu_tool.specs.declared.made.Made.{Made}
+use Rattle.spu_tool.specs.declared.options.CheckOptions.{CheckOptions}
 use Rattle.spu_tool.specs.declared.options.RunOptions.{RunOptions}
 use Rattle.spu_tool.specs.declared.request.Action.{Action}
 use Rattle.spu_tool.specs.declared.request.Action.TheVariants as action
-use Rattle.spu_tool.specs.Options.{AreSound}
+use Rattle.spu_tool.specs.Options.{AreCheckSound, AreLinkSound, AreSound}
 use Rattle.spu_tool.specs.declared.status.Status.{Status}
 use Rattle.spu_tool.specs.declared.status.Status.TheVariants as status
 
@@ -63,27 +80,33 @@ count_line what count = what ++ codes " " ++ decimal count ++ codes "\n"
 abbrev pub share_line : List ℕ → ℕ → ℕ → List ℕ
 share_line what part whole = what ++ codes " " ++ decimal part ++ codes " of " ++ decimal whole ++ codes "\n"
 
+-- what the entry needs of the stack
+abbrev pub entry_need : Linked → ℕ
+entry_need l = unwrap_or (need_of l.needs l.prog.entry) 0
+
+-- the lines of functions with their frames and needs, where they are asked for
+abbrev pub stack_lines : Bool → Linked → List ℕ
+stack_lines true l = stack_text l.prog l.depths l.needs
+stack_lines false l = []
+
 -- the summary of a flat image: how many functions it has beside the start code, the stack that they need, and where it ends
-abbrev pub summary_of : ℕ → ℕ → ℕ → ℕ → List ℕ
-summary_of functions need limit top =
-    codes "image flat\n" ++ count_line (codes "functions") functions
-    ++ share_line (codes "stack") need limit ++ share_line (codes "top") top (STACK_TOP - limit)
+abbrev pub summary : Linked → ℕ → ℕ → Bool → List ℕ
+summary l need limit stack_syms =
+    codes "image flat\n" ++ count_line (codes "functions") (length l.prog.functions - 1)
+    ++ share_line (codes "stack") need limit ++ share_line (codes "top") l.plan.end (STACK_TOP - limit) ++ stack_lines stack_syms l
 
-abbrev pub summary : Linked → ℕ → ℕ → List ℕ
-summary l limit need = summary_of (length l.prog.functions - 1) need limit l.plan.end
-
--- the object that the bytes stand for is linked; its functions need no stack
-pub record LinksTo (bytes : List ℕ) (m : Made) : Type 0 where
-  pub read : object_fault bytes ≡ None
+-- the objects are linked, and the need of the promise is printed
+pub record LinksTo (o : LinkOptions) (objects : List Object) (m : Made) : Type 0 where
   pub linked : Linked
-  pub link : IsLinked (object_in bytes ∷ []) DEFAULT_LIMIT linked
-  pub is : m ≡ made status.Ok (Some linked.file) (summary linked DEFAULT_LIMIT 0)
+  pub link : IsLinked objects o linked
+  pub is : m ≡ made status.Ok (Some linked.file) (summary linked link.image.need o.limit o.stack_syms)
 
--- it isn't of the first form
-pub record LinksNot (name bytes : List ℕ) (m : Made) : Type 0 where
-  pub read : object_fault bytes ≡ None
-  pub other : IsFirst (object_in bytes) → ⊥
-  pub is : m ≡ refused (form_line name)
+-- they have a fault of these
+pub record LinksNot (Has : LinkFault → Type 0) (names : List (List ℕ)) (m : Made) : Type 0 where
+  pub fault : LinkFault
+  pub has : Has fault
+  pub told : fault ≢ links.OutOfMemory
+  pub is : m ≡ refused (link_line names fault)
 
 -- a check of the file fails, the first at this offset
 pub record ReadsNot (fault : Option ElfFault) (name : List ℕ) (m : Made) : Type 0 where
@@ -92,8 +115,29 @@ pub record ReadsNot (fault : Option ElfFault) (name : List ℕ) (m : Made) : Typ
   pub first : fault ≡ Some (faults.Fault kind offset)
   pub is : m ≡ refused (elf_line kind name offset)
 
-abbrev pub MakesLink : List ℕ → List ℕ → Made → Type 0
-MakesLink name bytes m = LinksTo bytes m ⊎ (LinksNot name bytes m ⊎ ReadsNot (object_fault bytes) name m)
+-- each file stands for an object
+abbrev pub AreObjects : List (List ℕ) → Type 0
+AreObjects files = All (λ bytes. object_fault bytes ≡ None) files
+
+-- the first file that stands for none
+pub record ReadsNotAll (names files : List (List ℕ)) (m : Made) : Type 0 where
+  pub at : ℕ
+  pub there : at < length files
+  pub earlier : AreObjects (take at files)
+  pub made : ReadsNot (object_fault (slice_index_or files at [])) (slice_index_or names at []) m
+
+-- the files stand for objects that are linked, or that have a fault
+pub record LinksOrNot (o : LinkOptions) (names files : List (List ℕ)) (m : Made) : Type 0 where
+  pub read : AreObjects files
+  pub made : LinksTo o (map object_in files) m ⊎ LinksNot (IsLinkFault (map object_in files) o) names m
+
+abbrev pub MakesLink : LinkOptions → List (List ℕ) → List (List ℕ) → Made → Type 0
+MakesLink o names files m = LinksOrNot o names files m ⊎ ReadsNotAll names files m
+
+-- the objects that are read of files, or what is made where one can't be read
+abbrev pub ReadsOrNot : List (List ℕ) → List (List ℕ) → Result (List Object) Made → Type 0
+ReadsOrNot names files (Ok objects) = AreObjects files × (objects ≡ map object_in files) × All IsWellFormed objects
+ReadsOrNot names files (Err m) = ReadsNotAll names files m
 
 -- ---- asm
 
@@ -139,9 +183,12 @@ abbrev pub hexadecimal : ℕ → List ℕ
 hexadecimal n =
     hex_digit (n / 4096 % 16) ∷ hex_digit (n / 256 % 16) ∷ hex_digit (n / 16 % 16) ∷ hex_digit (n % 16) ∷ []
 
+abbrev pub stop_line : ℕ → List ℕ
+stop_line code = codes "stop 0x" ++ hexadecimal code ++ codes "\n"
+
 -- how a run ended; one that hasn't has made its steps
 abbrev pub end_line : RunEnd → List ℕ
-end_line (ending.Stop code) = codes "stop 0x" ++ hexadecimal code ++ codes "\n"
+end_line (ending.Stop code) = stop_line code
 end_line (ending.Halt address) = count_line (codes "halt") address
 end_line ending.Starved = codes "starved\n"
 end_line (ending.BadInstruction address) = count_line (codes "bad-instruction") address
@@ -171,10 +218,12 @@ area_line a = codes "area " ++ a.name ++ codes " " ++ encode_lower a.bytes ++ co
 abbrev pub waiting_line : ℕ → List ℕ
 waiting_line n = if n == 0 then [] else count_line (codes "waiting") n
 
+abbrev pub shown_text : List ℕ → List Area → ℕ → List ℕ → ℕ → List ℕ
+shown_text output areas waiting end steps =
+    flat_map out_line output ++ flat_map area_line areas ++ waiting_line waiting ++ end ++ count_line (codes "steps") steps
+
 abbrev pub run_text : State → List ℕ
-run_text s =
-    flat_map out_line s.output ++ flat_map area_line s.areas ++ waiting_line (length s.queue)
-    ++ end_line (end_of s.ended) ++ count_line (codes "steps") s.steps
+run_text s = shown_text s.output s.areas (length s.queue) (end_line (end_of s.ended)) s.steps
 
 -- what a run is given, where its areas' files hold these bytes
 abbrev pub inputs_of : RunOptions → List (List ℕ) → Inputs
@@ -186,13 +235,13 @@ pub record Runs (exec : Exec) (bytes : List ℕ) (inputs : Inputs) (budget : ℕ
   pub is : let s = steps budget (start exec bytes inputs) in m ≡ made (status_of (end_of s.ended)) None (run_text s)
 
 -- it can't be loaded
-pub record LoadsNot (exec : Exec) (bytes : List ℕ) (inputs : Inputs) (m : Made) : Type 0 where
+pub record LoadsNot (found : Option LoadFault) (m : Made) : Type 0 where
   pub fault : LoadFault
-  pub first : load_fault exec bytes inputs ≡ Some fault
+  pub first : found ≡ Some fault
   pub is : m ≡ refused (load_line fault)
 
 abbrev pub RunsOrNot : Exec → List ℕ → Inputs → ℕ → Made → Type 0
-RunsOrNot exec bytes inputs budget m = Runs exec bytes inputs budget m ⊎ LoadsNot exec bytes inputs m
+RunsOrNot exec bytes inputs budget m = Runs exec bytes inputs budget m ⊎ LoadsNot (load_fault exec bytes inputs) m
 
 -- the bytes spell an executable, which is run or can't be loaded
 pub record RunsTo (options : RunOptions) (bytes : List ℕ) (files : List (List ℕ)) (m : Made) : Type 0 where
@@ -230,6 +279,74 @@ abbrev pub MakesRunOf : RunOptions → List ℕ → List ℕ → List (List ℕ)
 MakesRunOf options name bytes files m =
     RunsEmbedded options name bytes files m ⊎ (UnpacksNot bytes m ⊎ RunsPlain options name bytes files m)
 
+-- ---- check
+
+-- a place of a function, by its name and the offset there
+abbrev pub at_place : List ℕ → Prog → ℕ → ℕ → List ℕ
+at_place what p f i = what ++ codes " " ++ name_of p f ++ codes "+" ++ decimal (WORD_SIZE * i) ++ codes "\n"
+
+abbrev pub reason_name : Reason → List ℕ
+reason_name reason.NotNumber = codes "outside not-number"
+reason_name reason.Store = codes "outside store"
+reason_name reason.Transfer = codes "outside transfer"
+reason_name reason.EndOfCode = codes "outside end-of-code"
+reason_name reason.Target = codes "outside target"
+reason_name reason.Update = codes "outside update"
+
+-- how a symbolic run ended: as a run of an executable, or at a place of a function
+abbrev pub check_line : Prog → IdealEnd → List ℕ
+check_line p (symbolic.Stop code) = end_line (ending.Stop code)
+check_line p (symbolic.Halt f i) = at_place (codes "halt") p f i
+check_line p symbolic.Starved = end_line ending.Starved
+check_line p (symbolic.BadChannel channel) = end_line (ending.BadChannel channel)
+check_line p symbolic.OutboxFull = end_line ending.OutboxFull
+check_line p (symbolic.Outside reason f i) = at_place (reason_name reason) p f i
+check_line p symbolic.Running = end_line ending.Running
+
+abbrev pub check_status : IdealEnd → Status
+check_status (symbolic.Stop code) = status.Ok
+check_status (symbolic.Halt f i) = status.Ended
+check_status symbolic.Starved = status.Ended
+check_status (symbolic.BadChannel channel) = status.Ended
+check_status symbolic.OutboxFull = status.Ended
+check_status (symbolic.Outside reason f i) = status.Ended
+check_status symbolic.Running = status.Running
+
+abbrev pub check_text : Prog → Sym → List ℕ
+check_text p s = shown_text s.output s.areas (length s.queue) (check_line p (ideal_end_of s.ended)) s.steps
+
+-- a judged program is run symbolically from its start
+pub record RunsSymbolically (j : Judged) (limit : ℕ) (inputs : Inputs) (budget : ℕ) (m : Made) : Type 0 where
+  pub fits : ideal_fault j.prog inputs ≡ None
+  pub is : let s = run j.prog (frame_at j.depths) limit inputs budget in m ≡ made (check_status (ideal_end_of s.ended)) None (check_text j.prog s)
+
+-- its data end below the stack, and it is run or can't be loaded
+pub record RunsBelow (j : Judged) (limit : ℕ) (inputs : Inputs) (budget : ℕ) (m : Made) : Type 0 where
+  pub apart : j.prog.data_end ≤ STACK_TOP - limit
+  pub made : RunsSymbolically j limit inputs budget m ⊎ LoadsNot (ideal_fault j.prog inputs) m
+
+-- L20: its data don't end below the stack
+pub record DataTooLarge (j : Judged) (limit : ℕ) (m : Made) : Type 0 where
+  pub over : STACK_TOP - limit < j.prog.data_end
+  pub is : m ≡ refused (link_line [] (links.TooLarge j.prog.data_end (STACK_TOP - limit)))
+
+abbrev pub Checks : Judged → ℕ → Inputs → ℕ → Made → Type 0
+Checks j limit inputs budget m = RunsBelow j limit inputs budget m ⊎ DataTooLarge j limit m
+
+-- the program that the objects stand for is judged, and checked
+pub record ChecksTo (o : CheckOptions) (objects : List Object) (areas : List (List ℕ)) (m : Made) : Type 0 where
+  pub judged : Judged
+  pub from : IsJudgedFrom objects o.entry o.limit judged
+  pub made : Checks judged o.limit (inputs_of o.run areas) o.run.steps m
+
+-- the files stand for objects that are checked, or that have a fault of L1 to L19
+pub record ChecksOrNot (o : CheckOptions) (names files areas : List (List ℕ)) (m : Made) : Type 0 where
+  pub read : AreObjects files
+  pub made : ChecksTo o (map object_in files) areas m ⊎ LinksNot (IsJudgeFault (map object_in files) o.entry o.limit) names m
+
+abbrev pub MakesCheck : CheckOptions → List (List ℕ) → List (List ℕ) → List (List ℕ) → Made → Type 0
+MakesCheck o names files areas m = ChecksOrNot o names files areas m ⊎ ReadsNotAll names files m
+
 -- ---- embed
 
 -- it is embedded, and nothing is put
@@ -263,15 +380,19 @@ first xs = slice_index_or xs 0 []
 
 abbrev pub MakesBy : Action → List (List ℕ) → List (List ℕ) → Made → Type 0
 MakesBy action.Assemble names files = MakesAssemble (first files)
-MakesBy action.Link names files = MakesLink (first names) (first files)
+MakesBy (action.Link options) names files = MakesLink options names files
 MakesBy action.Map names files = MakesMap (first names) (first files)
 MakesBy (action.Embed handle) names files = MakesEmbed handle (first names) (first files)
 MakesBy (action.Run options) names files = MakesRunOf options (first names) (first files) (drop 1 files)
+MakesBy (action.Check options) names files =
+    let objects = length files - length options.run.places in
+    MakesCheck options (take objects names) (take objects files) (drop objects files)
 
 -- how many files an action has, and what its options keep
 abbrev pub IsComplete : Action → ℕ → Type 0
 IsComplete action.Assemble files = 1 ≤ files
-IsComplete action.Link files = 1 ≤ files
+IsComplete (action.Link options) files = (1 ≤ files) × (files ≤ MAX_OBJECTS) × AreLinkSound options
 IsComplete action.Map files = 1 ≤ files
 IsComplete (action.Embed handle) files = (1 ≤ files) × IsName handle
 IsComplete (action.Run options) files = (files ≡ 1 + length options.places) × AreSound options
+IsComplete (action.Check options) files = (length options.run.places ≤ files) × (files ≤ MAX_OBJECTS + length options.run.places) × AreCheckSound options

@@ -1,17 +1,19 @@
 -- The options of a command line: their names, and their values.
-use Rattle.std.specs.Prelude.{◌≡◌, ℕ, ◌%◌, ◌==◌, Bool, ◌≤◌, List, [], ◌∷◌, ◌++◌, length, codes, if◌then◌else◌, Option, Some, None, option_map, unwrap_or}
+use Rattle.std.specs.Prelude.{◌≡◌, ℕ, ◌%◌, ◌==◌, Bool, true, false, ◌≤◌, List, [], ◌∷◌, ◌++◌, length, codes, if◌then◌else◌, Option, Some, None, option_map, unwrap_or}
 use Rattle.std.specs.Str.{bytes_eq}
-use Rattle.spu_word.specs.declared.limits.TheConstants.{MAX_AREAS, MAX_MAIL}
+use Rattle.spu_word.specs.declared.limits.TheConstants.{MAX_AREAS, MAX_MAIL, MAX_STACK_LIMIT, QUAD_SIZE}
 use Rattle.spu_elf.specs.declared.constants.TheConstants.{SEGMENT_ALIGN}
-use Rattle.spu_tool.specs.declared.areas.AreaPlace.{AreaPlace}
-use Rattle.spu_tool.specs.declared.options.TheConstants.{DEFAULT_IMAGE, DEFAULT_STEPS, MAX_IMAGE}
+use Rattle.spu_tool.specs.declared.options.TheConstants.{DEFAULT_IMAGE, DEFAULT_LIMIT, DEFAULT_STEPS, MAX_IMAGE}
 use Rattle.spu_tool.specs.declared.options.OptionName.{OptionName}
-use Rattle.spu_tool.specs.declared.options.OptionName.TheVariants.{Steps, Mail, Area, Image}
+use Rattle.spu_tool.specs.declared.options.OptionName.TheVariants.{Steps, Mail, Area, Image, Stack, Entry, StackSyms}
 use Rattle.spu_tool.specs.declared.options.Options.{Options}
+use Rattle.spu_tool.specs.declared.options.CheckOptions.{CheckOptions}
 use Rattle.spu_tool.specs.declared.options.RunOptions.{RunOptions}
+use Rattle.spu_image.specs.declared.outcome.LinkOptions.{LinkOptions}
 use Rattle.spu_tool.specs.Areas.{ArePlaced, place_of}
 use Rattle.spu_tool.specs.Numbers.{number_within, word_of}
 use Rattle.spu_tool.specs.Lists.{mail_of}
+use Rattle.spu_tool.specs.Names.{symbol_name}
 
 -- the names, one line each
 abbrev pub option_named : List ℕ → Option OptionName
@@ -20,12 +22,15 @@ option_named name =
     if bytes_eq name (codes "--mail") then Some Mail else
     if bytes_eq name (codes "--area") then Some Area else
     if bytes_eq name (codes "--image") then Some Image else
+    if bytes_eq name (codes "--stack") then Some Stack else
+    if bytes_eq name (codes "--entry") then Some Entry else
+    if bytes_eq name (codes "--stack-syms") then Some StackSyms else
     None
 
 -- ---- the options that have been given
 
 abbrev pub no_options : Options
-no_options = record { steps = None; mail = None; places = []; image = None }
+no_options = record { steps = None; mail = None; places = []; image = None; stack = None; entry = None; stack_syms = false }
 
 -- the value of an option that wasn't given before
 abbrev pub once : {X Y : Type 0} → Option X → Option Y → Option Y
@@ -38,16 +43,32 @@ with_steps o value = option_map (λ n. record o { steps = Some n }) (once o.step
 abbrev pub with_mail : Options → List ℕ → Option Options
 with_mail o value = option_map (λ m. record o { mail = Some m }) (once o.mail (mail_of value))
 
--- a place of the executable's file: a number that is a multiple of 128
-abbrev pub if_aligned : Option ℕ → Option ℕ
-if_aligned None = None
-if_aligned (Some n) = if n % SEGMENT_ALIGN == 0 then Some n else None
+-- a number that is a multiple of this
+abbrev pub if_multiple : ℕ → Option ℕ → Option ℕ
+if_multiple step None = None
+if_multiple step (Some n) = if n % step == 0 then Some n else None
 
+-- a place of the executable's file: a multiple of 128
 abbrev pub image_of : List ℕ → Option ℕ
-image_of text = if_aligned (number_within MAX_IMAGE text)
+image_of text = if_multiple SEGMENT_ALIGN (number_within MAX_IMAGE text)
 
 abbrev pub with_image : Options → List ℕ → Option Options
 with_image o value = option_map (λ n. record o { image = Some n }) (once o.image (image_of value))
+
+-- the stack's size: a multiple of 16
+abbrev pub stack_of : List ℕ → Option ℕ
+stack_of text = if_multiple QUAD_SIZE (number_within MAX_STACK_LIMIT text)
+
+abbrev pub with_stack : Options → List ℕ → Option Options
+with_stack o value = option_map (λ n. record o { stack = Some n }) (once o.stack (stack_of value))
+
+abbrev pub with_entry : Options → List ℕ → Option Options
+with_entry o value = option_map (λ name. record o { entry = Some name }) (once o.entry (symbol_name value))
+
+-- an option without a value
+abbrev pub with_stack_syms : Options → Option (List ℕ) → Option Options
+with_stack_syms o (Some value) = None
+with_stack_syms o None = if o.stack_syms then None else Some (record o { stack_syms = true })
 
 -- one area more
 abbrev pub with_place : Options → List ℕ → ℕ → Options
@@ -74,3 +95,30 @@ pub record AreSound (o : RunOptions) : Type 0 where
   pub placed : ArePlaced o.places
   pub aligned : o.image % SEGMENT_ALIGN ≡ 0
   pub near : o.image ≤ MAX_IMAGE
+
+-- ---- the options of a link
+
+-- the name of the entry function
+abbrev pub entry_name : Option (List ℕ) → List ℕ
+entry_name entry = unwrap_or entry (codes "main")
+
+abbrev pub link_options : Options → LinkOptions
+link_options o = record { entry = entry_name o.entry; limit = unwrap_or o.stack DEFAULT_LIMIT; stack_syms = o.stack_syms }
+
+-- what the stack's size keeps
+pub record IsStackSize (limit : ℕ) : Type 0 where
+  pub whole : limit % QUAD_SIZE ≡ 0
+  pub low : limit ≤ MAX_STACK_LIMIT
+
+-- what the options of each link keep
+abbrev pub AreLinkSound : LinkOptions → Type 0
+AreLinkSound o = IsStackSize o.limit
+
+-- ---- the options of a check
+
+abbrev pub check_options : Options → CheckOptions
+check_options o = record { entry = entry_name o.entry; limit = unwrap_or o.stack DEFAULT_LIMIT; run = run_options o }
+
+-- what the options of each check keep
+abbrev pub AreCheckSound : CheckOptions → Type 0
+AreCheckSound o = IsStackSize o.limit × AreSound o.run

@@ -1,9 +1,9 @@
 //! The words of a command line.
 
-ghost use Rattle.std.specs.Prelude.{◌≡◌, [], ◌∷◌, map, string_bytes, length, IfOk, IfErr};
+ghost use Rattle.std.specs.Prelude.{◌≡◌, [], ◌∷◌, ◌++◌, map, string_bytes, length, IfOk, IfErr};
 ghost use Rattle.std.specs.Option.{option_map};
 ghost use Rattle.spu_tool.specs.Options.{IsTaken};
-ghost use Rattle.spu_tool.specs.Arguments.{asked, asked_of, asked_from, asked_assemble, asked_link, asked_embed, asked_read, texts_of, read_after, nothing_given, is_option, parts_in, IsFaultOf};
+ghost use Rattle.spu_tool.specs.Arguments.{asked, asked_of, asked_from, asked_assemble, asked_link, asked_embed, asked_read, texts_of, text_in, read_after, nothing_given, is_option, parts_in, IsFaultOf};
 ghost use Rattle.spu_tool.specs.declared.arguments.ParseFault.TheVariants as faults;
 
 use crate::areas::{AreaWord, area_word};
@@ -11,6 +11,7 @@ use crate::command::Command;
 use crate::cutting::cut_at;
 use crate::options::{OptionName, Options};
 use crate::request::{Action, Request};
+use spu_image::LinkOptions;
 use spu_word::{OutOfMemory, Seq};
 use std::alloc::Global;
 use std::marker::Model;
@@ -38,11 +39,24 @@ fn is_option(word: &[u8]) -> bool
     word.starts_with(b"--")
 }
 
-// The name of an option, and its value.
-fn name_and_value(word: &str) -> (&str, &str)
-    ensures { (result.0.now, result.1.now) ≡ parts_in word.now }
+// The name of an option, and its value, where it has one.
+fn name_and_value(word: &str) -> (&str, Option<&str>)
+    ensures { (result.0.now, option_map (λ v. v.now) result.1) ≡ parts_in word.now }
 {
-    cut_at(word, '=').unwrap_or((word, ""))
+    match cut_at(word, '=') {
+        Some((name, value)) => (name, Some(value)),
+        None => (word, None),
+    }
+}
+
+// A value, empty where it is missing.
+fn text_in<'a>(value: Option<&'a str>) -> &'a str
+    ensures { result.now ≡ text_in (option_map (λ v. v.now) value.entry) }
+{
+    match value {
+        Some(text) => text,
+        None => "",
+    }
 }
 
 // The words after a command, as far as they were read.
@@ -100,15 +114,19 @@ impl<'a> Arguments<'a> {
         &mut self,
         alloc: Global,
         name: OptionName,
-        value: &'a str,
+        value: Option<&'a str>,
     ) -> Result<bool, OutOfMemory>
-        ensures { IfOk result (IsTaken (with_option self.old name value.now) self.new) }
+        ensures { IfOk result (IsTaken (with_option self.old name (option_map (λ v. v.now) value.entry)) self.new) }
     {
+        let text = text_in(value);
         match name {
-            OptionName::Steps => Ok(self.options.take_steps(value.as_bytes())),
-            OptionName::Mail => self.options.take_mail(alloc, value.as_bytes()),
-            OptionName::Area => self.take_area(alloc, area_word(value)),
-            OptionName::Image => Ok(self.options.take_image(value.as_bytes())),
+            OptionName::Steps => Ok(self.options.take_steps(text.as_bytes())),
+            OptionName::Mail => self.options.take_mail(alloc, text.as_bytes()),
+            OptionName::Area => self.take_area(alloc, area_word(text)),
+            OptionName::Image => Ok(self.options.take_image(text.as_bytes())),
+            OptionName::Stack => Ok(self.options.take_stack(text.as_bytes())),
+            OptionName::Entry => self.options.take_entry(alloc, text.as_bytes()),
+            OptionName::StackSyms => Ok(self.options.take_stack_syms(value)),
         }
     }
 
@@ -187,15 +205,19 @@ fn assemble_request<'a>(
     }
 }
 
-// The request of `link OUT IN`.
-fn link_request<'a>(alloc: Global, operands: &[&'a str]) -> Result<Option<Request<'a>>, OutOfMemory>
-    ensures { IfOk result (λ r. option_map asked_of r ≡ asked_link (texts_of operands.now)) }
+// The request of `link OUT IN..`.
+fn link_request<'a>(
+    alloc: Global,
+    operands: &[&'a str],
+    options: LinkOptions,
+) -> Result<Option<Request<'a>>, OutOfMemory>
+    ensures { IfOk result (λ r. option_map asked_of r ≡ asked_link (texts_of operands.now) options) }
 {
-    match (operands.get(0), operands.get(1)) {
-        (Some(output), Some(input)) => Ok(Some(Request {
-            inputs: alone(alloc, input)?,
+    match operands {
+        [output, input, inputs @ ..] => Ok(Some(Request {
+            inputs: with_files(alloc, input, inputs)?,
             output: Some(output),
-            action: Action::Link,
+            action: Action::Link(options),
         })),
         _ => Ok(None),
     }
@@ -233,7 +255,20 @@ fn with_files<'a>(
     Ok(all)
 }
 
-// A request that reads an executable, and then other files, and writes none.
+// Files, and then others.
+fn joined<'a>(
+    alloc: Global,
+    files: &[&'a str],
+    others: &[&'a str],
+) -> Result<Vec<&'a str>, OutOfMemory>
+    ensures { IfOk result (λ all. texts_of all.items ≡ texts_of files.now ++ texts_of others.now) }
+{
+    let mut all = Vec::from_slice(alloc, files)?;
+    all.extend_from_slice(others)?;
+    Ok(all)
+}
+
+// A request that reads the operands and then other files, and writes none.
 fn reading_request<'a>(
     alloc: Global,
     operands: &[&'a str],
@@ -242,13 +277,13 @@ fn reading_request<'a>(
 ) -> Result<Option<Request<'a>>, OutOfMemory>
     ensures { IfOk result (λ r. option_map asked_of r ≡ asked_read (texts_of operands.now) (texts_of files.now) action) }
 {
-    match operands.get(0) {
-        Some(input) => Ok(Some(Request {
-            inputs: with_files(alloc, input, files)?,
+    match operands {
+        [] => Ok(None),
+        _ => Ok(Some(Request {
+            inputs: joined(alloc, operands, files)?,
             output: None,
             action,
         })),
-        None => Ok(None),
     }
 }
 
@@ -271,7 +306,7 @@ impl<'a> Arguments<'a> {
         } = self;
         match command {
             Command::Assemble => assemble_request(alloc, operands.as_slice()),
-            Command::Link => link_request(alloc, operands.as_slice()),
+            Command::Link => { link_request(alloc, operands.as_slice(), options.into_link(alloc)?) }
             Command::Map => reading_request(alloc, operands.as_slice(), &[], Action::Map),
             Command::Embed => embed_request(alloc, operands.as_slice()),
             Command::Run => reading_request(
@@ -279,6 +314,12 @@ impl<'a> Arguments<'a> {
                 operands.as_slice(),
                 files.as_slice(),
                 Action::Run(options.into_run(alloc)),
+            ),
+            Command::Check => reading_request(
+                alloc,
+                operands.as_slice(),
+                files.as_slice(),
+                Action::Check(options.into_check(alloc)?),
             ),
         }
     }
@@ -357,8 +398,18 @@ mod tests {
             ("link", 2),
             ("asm a", 3),
             ("asm a _", 3),
-            ("link a b c", 4),
-            ("link a --entry=b c", 3),
+            ("link a --steps=1 c", 3),
+            ("link --stack-syms a", 4),
+            ("link a b --stack=8", 4),
+            ("link a b --stack=262000", 4),
+            ("link a b --stack", 4),
+            ("link a --stack=16 --stack=16 b", 4),
+            ("link a --entry= b", 3),
+            ("link a --entry=\u{e9} b", 3),
+            ("link a --entry=b --entry=b", 4),
+            ("link a b --stack-syms=", 4),
+            ("link a b --stack-syms --stack-syms", 5),
+            ("run a --stack=16", 3),
             ("link --steps=1 a b", 2),
             ("map", 2),
             ("map a b", 3),
@@ -400,6 +451,14 @@ mod tests {
             ("run a --image=64", 3),
             ("run a --image=0xffffffffff800080", 3),
             ("run a --image=0 --image=0", 4),
+            ("check", 2),
+            ("check --steps=1", 3),
+            ("check a --image=0", 3),
+            ("check a --stack-syms", 3),
+            ("check a b --stack=8", 4),
+            ("check --entry= a", 2),
+            ("check a --mail=", 3),
+            ("check a --area=n:0:f b --area=n:16:g", 5),
         ];
         for (line, fault) in cases {
             let words = words_of(rt.alloc(), line)?;
@@ -413,7 +472,8 @@ mod tests {
     fn steps_of(action: Action) -> Option<u32> {
         match action {
             Action::Run(options) => Some(options.steps),
-            Action::Assemble | Action::Link | Action::Map | Action::Embed(_) => None,
+            Action::Check(options) => Some(options.run.steps),
+            Action::Assemble | Action::Link(_) | Action::Map | Action::Embed(_) => None,
         }
     }
 
@@ -443,7 +503,8 @@ mod tests {
     fn areas_of(request: &Request<'_>) -> Option<usize> {
         match &request.action {
             Action::Run(options) => Some(options.places.len()),
-            Action::Assemble | Action::Link | Action::Map | Action::Embed(_) => None,
+            Action::Check(options) => Some(options.run.places.len()),
+            Action::Assemble | Action::Link(_) | Action::Map | Action::Embed(_) => None,
         }
     }
 

@@ -1,20 +1,17 @@
 //! The commands: their names, operands and options.
 
 ghost use Rattle.std.specs.Prelude.{◌≡◌, ℕ};
-ghost use Rattle.std.specs.List.{list_all};
-ghost use Rattle.spu_elf.specs.Validity.{is_printed};
-ghost use Rattle.spu_tool.specs.Arguments.{is_symbol_name};
 
+use crate::names::is_symbol_name;
 use crate::options::OptionName;
-use spu_elf::is_printed;
-use spu_word::limits::MAX_NAME_SIZE;
+use spu_word::limits::MAX_OBJECTS;
 
 /// A command.
 #[derive(Clone, Copy, PartialEq, Eq, Debug)]
 pub enum Command {
     /// `asm IN OUT`
     Assemble,
-    /// `link OUT IN`
+    /// `link OUT IN..`
     Link,
     /// `map IN`
     Map,
@@ -22,20 +19,8 @@ pub enum Command {
     Embed,
     /// `run IN`
     Run,
-}
-
-/// Whether each byte may stand in a name.
-fn are_printed(word: &[u8]) -> bool
-    ensures { result ≡ list_all is_printed word.now }
-{
-    word.iter().all(|c| is_printed(*c))
-}
-
-/// Whether a word may name a symbol.
-fn is_symbol_name(word: &[u8]) -> bool
-    ensures { result ≡ is_symbol_name word.now }
-{
-    !word.is_empty() && word.len() <= MAX_NAME_SIZE as usize && are_printed(word)
+    /// `check IN..`
+    Check,
 }
 
 impl Command {
@@ -51,6 +36,7 @@ impl Command {
             b"map" => Some(Command::Map),
             b"embed" => Some(Command::Embed),
             b"run" => Some(Command::Run),
+            b"check" => Some(Command::Check),
             _ => None,
         }
     }
@@ -61,10 +47,11 @@ impl Command {
     {
         match self {
             Command::Assemble => 2,
-            Command::Link => 2,
+            Command::Link => MAX_OBJECTS as usize + 1,
             Command::Map => 1,
             Command::Embed => 3,
             Command::Run => 1,
+            Command::Check => MAX_OBJECTS as usize,
         }
     }
 
@@ -73,8 +60,16 @@ impl Command {
         ensures { result ≡ has_option self name }
     {
         match (self, name) {
-            (Command::Run, _) => true,
-            (Command::Assemble | Command::Link | Command::Map | Command::Embed, _) => false,
+            (Command::Run, OptionName::Steps | OptionName::Mail) => true,
+            (Command::Run, OptionName::Area | OptionName::Image) => true,
+            (Command::Run, OptionName::Stack | OptionName::Entry | OptionName::StackSyms) => false,
+            (Command::Link, OptionName::Stack | OptionName::Entry | OptionName::StackSyms) => true,
+            (Command::Link, OptionName::Steps | OptionName::Mail) => false,
+            (Command::Link, OptionName::Area | OptionName::Image) => false,
+            (Command::Check, OptionName::Stack | OptionName::Entry) => true,
+            (Command::Check, OptionName::Steps | OptionName::Mail | OptionName::Area) => true,
+            (Command::Check, OptionName::Image | OptionName::StackSyms) => false,
+            (Command::Assemble | Command::Map | Command::Embed, _) => false,
         }
     }
 
@@ -83,7 +78,8 @@ impl Command {
         ensures { result ≡ is_operand self index word.now }
     {
         match self {
-            Command::Assemble | Command::Link | Command::Map | Command::Run => true,
+            Command::Assemble | Command::Link | Command::Map | Command::Run | Command::Check =>
+                true,
             Command::Embed => index != 0 || is_symbol_name(word),
         }
     }

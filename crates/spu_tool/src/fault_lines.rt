@@ -1,7 +1,7 @@
 //! What is made of input that has a fault: the fault's line.
 
 ghost use Rattle.std.specs.Prelude.{◌≡◌, ◌≢◌, string_bytes, IfOk};
-ghost use Rattle.spu_tool.specs.FaultLines.{asm_name, elf_name, asm_line, elf_line, form_line, name_line, load_line};
+ghost use Rattle.spu_tool.specs.FaultLines.{asm_name, elf_name, asm_line, elf_line, name_line, load_line};
 ghost use Rattle.spu_tool.specs.Makes.{refused};
 ghost use Rattle.spu_word.specs.declared.load.LoadFault.TheVariants as loads;
 
@@ -88,14 +88,6 @@ pub fn elf_refusal(
 {
     let line = elf_line(alloc, kind, file, offset)?;
     refusal(alloc, line.as_str())
-}
-
-/// An object that isn't of the first form.
-pub fn form_refusal(alloc: Global, file: &str) -> Result<Made, OutOfMemory>
-    ensures { IfOk result (λ m. m ≡ refused (form_line file.now)) }
-{
-    let text = format!(in alloc; "L0 NotBuilt {file}\n")?;
-    refusal(alloc, text.as_str())
 }
 
 /// A fault that names an area.

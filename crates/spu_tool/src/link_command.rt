@@ -1,69 +1,104 @@
-//! What `link` makes of an object's bytes.
+//! What `link` makes of the bytes of objects.
 
-ghost use Rattle.std.specs.Prelude.{◌≡◌, ◌≤◌, ◌∷◌, [], codes, length, Some, IfOk};
-ghost use Rattle.spu_tool.specs.Makes.{MakesLink, made, summary, summary_of};
+ghost use Rattle.std.specs.Prelude.{◌≡◌, ◌⊎◌, ◌≤◌, length, All, Some, IfOk};
+ghost use Rattle.spu_word.specs.declared.limits.TheConstants.{MAX_OBJECTS};
+ghost use Rattle.spu_elf.specs.WellFormed.{IsWellFormed};
+ghost use Rattle.spu_lift.specs.WellFormed.{IsWellFormed as IsFormed};
+ghost use Rattle.spu_frame.specs.Found.{function_count as depth_count};
+ghost use Rattle.spu_image.specs.Linking.{IsLinkFault};
+ghost use Rattle.spu_tool.specs.Arguments.{texts_of};
+ghost use Rattle.spu_tool.specs.Options.{AreLinkSound};
+ghost use Rattle.spu_tool.specs.Makes.{MakesLink, LinksTo, LinksNot, ReadsOrNot, entry_need, made, stack_lines, summary};
 ghost use Rattle.spu_tool.specs.declared.status.Status.TheVariants as Status;
 
-use crate::fault_lines::{elf_refusal, form_refusal};
+use crate::fault_lines::elf_refusal;
+use crate::link_lines::{file_name, link_refusal};
 use crate::made::Made;
 use crate::status::Status;
 use crate::texts::{count_line, share_line};
 use spu_elf::{ElfFault, Object, read_object};
-use spu_image::{LinkFault, LinkOptions, Linked, link};
+use spu_image::{LinkOptions, Linked, link};
+use spu_map::stack_text;
 use spu_word::limits::STACK_TOP;
 use spu_word::{Bytes, OutOfMemory, Seq};
 use std::alloc::Global;
 
-/// The stack's size, where the words don't say.
-pub const DEFAULT_LIMIT: u32 = 16_384;
-
-fn default_options(alloc: Global) -> Result<LinkOptions, OutOfMemory>
-    ensures { IfOk result (λ o. o ≡ record { entry = codes "main"; limit = DEFAULT_LIMIT }) }
-{
-    Ok(LinkOptions {
-        entry: Seq::copied(alloc, b"main")?,
-        limit: DEFAULT_LIMIT,
-    })
-}
-
-fn alone(alloc: Global, object: Object) -> Result<Seq<Object>, OutOfMemory>
-    ensures { IfOk result (λ objects. objects ≡ object ∷ []) }
+#[tactic(auto, using(crate::proofs::Links::read_none, crate::proofs::Links::all_read, crate::proofs::Links::not_all))]
+/// The objects of files, or what is made of the first that is none.
+pub fn read_objects(
+    alloc: Global,
+    names: &[&str],
+    files: &[Bytes],
+) -> Result<Result<Seq<Object>, Made>, OutOfMemory>
+    requires { length names.now ≡ length files.now }
+    ensures { IfOk result (ReadsOrNot (texts_of names.now) files.now) }
 {
     let mut objects = Seq::new(alloc);
-    objects.push(object)?;
-    Ok(objects)
+    for k in 0..files.len() {
+        match read_object(alloc, files[k].as_slice()) {
+            Ok(object) => objects.push(object)?,
+            Err(ElfFault::Fault { kind, place }) => {
+                return Ok(Err(elf_refusal(alloc, kind, file_name(names, k), place)?));
+            }
+            Err(ElfFault::OutOfMemory) => return Err(OutOfMemory),
+        }
+    }
+    Ok(Ok(objects))
 }
 
-/// The summary of a flat image with this many functions beside the start code, which ends at `top`.
+/// The lines of functions, with their frames and needs, where they are asked for.
+fn stack_lines(alloc: Global, linked: &Linked, stack_syms: bool) -> Result<Bytes, OutOfMemory>
+    requires formed { IsFormed linked.now.prog }
+    requires count { depth_count linked.now.depths ≡ length linked.now.prog.functions }
+    ensures { IfOk result (λ t. t ≡ stack_lines stack_syms linked.now) }
+{
+    if stack_syms {
+        stack_text(alloc, &linked.prog, &linked.depths, &linked.needs)
+    } else {
+        Ok(Seq::new(alloc))
+    }
+}
+
+/// The summary of a flat image: how many functions it has beside the start code, what they need of the stack, where it
+/// ends; and the functions' lines, where they are asked for.
 fn summary(
     alloc: Global,
-    functions: usize,
-    need: u32,
+    linked: &Linked,
+    need: u64,
     limit: u32,
-    top: u32,
+    stack_syms: bool,
 ) -> Result<Bytes, OutOfMemory>
-    requires { limit ≤ STACK_TOP }
-    ensures { IfOk result (λ t. t ≡ summary_of functions need limit top) }
+    requires formed { IsFormed linked.now.prog }
+    requires count { depth_count linked.now.depths ≡ length linked.now.prog.functions }
+    requires some { 1 ≤ length linked.now.prog.functions }
+    requires limit { limit ≤ STACK_TOP }
+    ensures { IfOk result (λ t. t ≡ summary linked.now need limit stack_syms) }
 {
+    let functions = linked.prog.functions.len() - 1;
     let mut text = Seq::copied(alloc, b"image flat\n")?;
     text.extend(count_line(alloc, "functions", functions as u64)?.as_bytes())?;
-    text.extend(share_line(alloc, "stack", u64::from(need), u64::from(limit))?.as_bytes())?;
-    text.extend(share_line(
-        alloc,
-        "top",
-        u64::from(top),
-        u64::from(STACK_TOP - limit),
-    )?.as_bytes())?;
+    text.extend(share_line(alloc, "stack", need, u64::from(limit))?.as_bytes())?;
+    let (end, room) = (u64::from(linked.plan.end), u64::from(STACK_TOP - limit));
+    text.extend(share_line(alloc, "top", end, room)?.as_bytes())?;
+    text.extend(stack_lines(alloc, linked, stack_syms)?.as_slice())?;
     Ok(text)
 }
 
-/// What is made of an object that is linked.
-fn linked_made(alloc: Global, linked: Linked) -> Result<Made, OutOfMemory>
-    requires { 1 ≤ length linked.prog.functions }
-    ensures { IfOk result (λ m. m ≡ made Status.Ok (Some linked.file) (summary linked DEFAULT_LIMIT 0)) }
+/// What is made of an image: its file, and the summary with what its entry needs.
+fn linked_made(
+    alloc: Global,
+    linked: Linked,
+    limit: u32,
+    stack_syms: bool,
+) -> Result<Made, OutOfMemory>
+    requires formed { IsFormed linked.prog }
+    requires count { depth_count linked.depths ≡ length linked.prog.functions }
+    requires some { 1 ≤ length linked.prog.functions }
+    requires limit { limit ≤ STACK_TOP }
+    ensures { IfOk result (λ m. m ≡ made Status.Ok (Some linked.file) (summary linked (entry_need linked) limit stack_syms)) }
 {
-    let functions = linked.prog.functions.len() - 1;
-    let text = summary(alloc, functions, 0, DEFAULT_LIMIT, linked.plan.end)?;
+    let need = linked.needs.need(linked.prog.entry).unwrap_or(0);
+    let text = summary(alloc, &linked, need, limit, stack_syms)?;
     let Linked { file, .. } = linked;
     Ok(Made {
         status: Status::Ok,
@@ -72,20 +107,40 @@ fn linked_made(alloc: Global, linked: Linked) -> Result<Made, OutOfMemory>
     })
 }
 
-/// What is made of an object's bytes.
-pub fn link_command(alloc: Global, name: &str, bytes: &[u8]) -> Result<Made, OutOfMemory>
-    ensures { IfOk result (MakesLink name.now bytes.now) }
+/// What is made of the objects of files with these names.
+fn objects_linked(
+    alloc: Global,
+    options: &LinkOptions,
+    names: &[&str],
+    objects: &Seq<Object>,
+) -> Result<Made, OutOfMemory>
+    requires sound { AreLinkSound options.now }
+    requires few { length objects.now ≤ MAX_OBJECTS }
+    requires formed { All IsWellFormed objects.now }
+    ensures { IfOk result (λ m. LinksTo options.now objects.now m ⊎ LinksNot (IsLinkFault objects.now options.now) (texts_of names.now) m) }
 {
-    let object = match read_object(alloc, bytes) {
-        Ok(object) => object,
-        Err(ElfFault::Fault { kind, place }) => return elf_refusal(alloc, kind, name, place),
-        Err(ElfFault::OutOfMemory) => return Err(OutOfMemory),
-    };
-    let objects = alone(alloc, object)?;
-    let options = default_options(alloc)?;
-    match link(alloc, &objects, &options) {
-        Ok(linked) => linked_made(alloc, linked),
-        Err(LinkFault::NotBuilt(_)) => form_refusal(alloc, name),
-        Err(LinkFault::OutOfMemory) => Err(OutOfMemory),
+    match link(alloc, objects, options) {
+        Ok(linked) => linked_made(alloc, linked, options.limit, options.stack_syms),
+        Err(fault) => link_refusal(alloc, names, &fault),
+    }
+}
+
+#[tactic(auto, using(crate::proofs::Links::made_if, crate::proofs::Links::few_objects))]
+/// What is made of the bytes of files with these names.
+pub fn link_command(
+    alloc: Global,
+    options: &LinkOptions,
+    names: &[&str],
+    files: &[Bytes],
+) -> Result<Made, OutOfMemory>
+    requires sound { AreLinkSound options.now }
+    requires few { length files.now ≤ MAX_OBJECTS }
+    requires named { length names.now ≡ length files.now }
+    ensures { IfOk result (MakesLink options.now (texts_of names.now) files.now) }
+{
+    let read = read_objects(alloc, names, files)?;
+    match read {
+        Ok(objects) => objects_linked(alloc, options, names, &objects),
+        Err(made) => Ok(made),
     }
 }

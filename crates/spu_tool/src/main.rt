@@ -1,9 +1,12 @@
-//! The tool: texts are assembled, objects are linked, and executables are mapped, embedded and run.
+//! The tool: texts are assembled, objects are linked and checked, and executables are mapped, embedded and run.
 #![tactic(auto)]
 
 mod areas;
 mod arguments;
 mod assemble_command;
+mod check_command;
+#[cfg(test)]
+mod check_tests;
 mod command;
 mod concluding;
 mod cutting;
@@ -11,10 +14,14 @@ mod embed_command;
 mod fault_lines;
 mod laws;
 mod link_command;
+mod link_lines;
+#[cfg(test)]
+mod link_tests;
 mod lists;
 mod made;
 mod making;
 mod map_command;
+mod names;
 mod numbers;
 mod options;
 mod reading;
@@ -22,12 +29,15 @@ mod request;
 mod run_command;
 #[cfg(test)]
 mod run_tests;
+mod runs;
 mod status;
 mod telling;
 #[cfg(test)]
 mod tests;
 mod texts;
 mod tool;
+#[cfg(test)]
+mod workload_tests;
 
 use crate::telling::tell;
 use crate::tool::call;

@@ -1,10 +1,11 @@
 //! What a command makes: one case each.
 
-ghost use Rattle.std.specs.Prelude.{◌≡◌, ◌<◌, length, drop, IfOk};
+ghost use Rattle.std.specs.Prelude.{◌≡◌, ◌-◌, ◌<◌, ◌≤◌, length, take, drop, IfOk};
 ghost use Rattle.spu_tool.specs.Arguments.{texts_of};
 ghost use Rattle.spu_tool.specs.Makes.{MakesBy, IsComplete, first};
 
 use crate::assemble_command::assemble_command;
+use crate::check_command::check_command;
 use crate::embed_command::{embed_command, run_any};
 use crate::link_command::link_command;
 use crate::made::Made;
@@ -37,6 +38,23 @@ fn rest(files: &[Bytes]) -> &[Bytes]
     files.split_at(1).1
 }
 
+// The names of files but the last so many.
+fn names_before<'a>(names: &'a [&'a str], last: usize) -> &'a [&'a str]
+    requires { last ≤ length names.now }
+    ensures { result.now ≡ take (length names.now - last) names.now }
+{
+    names.split_at(names.len() - last).0
+}
+
+// Files without the last so many, and those.
+fn files_split(files: &[Bytes], last: usize) -> (&[Bytes], &[Bytes])
+    requires { last ≤ length files.now }
+    ensures first { result.0.now ≡ take (length files.now - last) files.now }
+    ensures rest { result.1.now ≡ drop (length files.now - last) files.now }
+{
+    files.split_at(files.len() - last)
+}
+
 /// What an action makes of its files, of which these are the names and the bytes.
 pub fn make(
     alloc: Global,
@@ -58,7 +76,7 @@ pub fn make(
                 first_file(files),
             )
         }
-        Action::Link => link_command(alloc, first_name(names), first_file(files)),
+        Action::Link(options) => link_command(alloc, &options, names, files),
         Action::Map => map_command(alloc, first_name(names), first_file(files)),
         Action::Run(options) => {
             run_any(
@@ -67,6 +85,17 @@ pub fn make(
                 first_name(names),
                 first_file(files),
                 rest(files),
+            )
+        }
+        Action::Check(options) => {
+            let areas = options.run.places.len();
+            let (objects, areas_files) = files_split(files, areas);
+            check_command(
+                alloc,
+                options,
+                names_before(names, areas),
+                objects,
+                areas_files,
             )
         }
     }

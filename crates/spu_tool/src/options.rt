@@ -1,14 +1,19 @@
 //! The options of a command line, and their values.
 
-ghost use Rattle.std.specs.Prelude.{◌≡◌, IfOk, OnOk};
+ghost use Rattle.std.specs.Prelude.{◌≡◌, ◌<◌, IfOk, OnOk};
+ghost use Rattle.std.specs.Option.{option_map};
 ghost use Rattle.spu_tool.specs.Areas.{has_room};
-ghost use Rattle.spu_tool.specs.Options.{image_of};
+ghost use Rattle.spu_tool.specs.Numbers.{number_within};
+ghost use Rattle.spu_tool.specs.Options.{entry_name, if_multiple, image_of, stack_of};
 
 use crate::areas::{AreaPlace, has_room};
 use crate::lists::mail_of;
+use crate::names::is_symbol_name;
 use crate::numbers::{number_within, word_of};
 use spu_elf::constants::SEGMENT_ALIGN;
-use spu_word::{OutOfMemory, Seq};
+use spu_image::LinkOptions;
+use spu_word::limits::{MAX_STACK_LIMIT, QUAD_SIZE};
+use spu_word::{Name, OutOfMemory, Seq};
 use std::alloc::Global;
 
 /// How many steps a run makes at most, where the words don't say.
@@ -19,6 +24,9 @@ pub const DEFAULT_IMAGE: u64 = 0x4000_0000;
 
 /// The greatest place of that file: there is room for two of the longest files.
 pub const MAX_IMAGE: u64 = 0xffff_ffff_ff80_0000;
+
+/// How many bytes the stack has, where the words don't say.
+pub const DEFAULT_LIMIT: u32 = 16_384;
 
 /// An option's name.
 #[derive(Clone, Copy, PartialEq, Eq, Debug)]
@@ -31,6 +39,12 @@ pub enum OptionName {
     Area,
     /// `--image=EA`, with EA a multiple of 128 that is at most `MAX_IMAGE`.
     Image,
+    /// `--stack=N`, with N a multiple of 16 that is at most 261,984.
+    Stack,
+    /// `--entry=NAME`, with the name of a symbol.
+    Entry,
+    /// `--stack-syms`
+    StackSyms,
 }
 
 impl OptionName {
@@ -48,9 +62,26 @@ impl OptionName {
             Some(OptionName::Area)
         } else if name == b"--image".as_slice() {
             Some(OptionName::Image)
+        } else if name == b"--stack".as_slice() {
+            Some(OptionName::Stack)
+        } else if name == b"--entry".as_slice() {
+            Some(OptionName::Entry)
+        } else if name == b"--stack-syms".as_slice() {
+            Some(OptionName::StackSyms)
         } else {
             None
         }
+    }
+}
+
+// The multiple of a step that a text writes, if it is at most the bound.
+fn multiple_within(text: &[u8], step: u64, most: u64) -> Option<u64>
+    requires { 0 < step }
+    ensures { result ≡ if_multiple step (number_within most text.now) }
+{
+    match number_within(text, most) {
+        Some(number) if number % step == 0 => Some(number),
+        Some(_) | None => None,
     }
 }
 
@@ -58,9 +89,16 @@ impl OptionName {
 fn image_of(text: &[u8]) -> Option<u64>
     ensures { result ≡ image_of text.now }
 {
-    match number_within(text, MAX_IMAGE) {
-        Some(ea) if ea % SEGMENT_ALIGN as u64 == 0 => Some(ea),
-        Some(_) | None => None,
+    multiple_within(text, SEGMENT_ALIGN as u64, MAX_IMAGE)
+}
+
+// The stack's size that a text writes.
+fn stack_of(text: &[u8]) -> Option<u32>
+    ensures { result ≡ stack_of text.now }
+{
+    match multiple_within(text, QUAD_SIZE as u64, MAX_STACK_LIMIT as u64) {
+        Some(limit) => Some(limit as u32),
+        None => None,
     }
 }
 
@@ -71,6 +109,20 @@ pub struct Options {
     pub mail: Option<Seq<u32>>,
     pub places: Seq<AreaPlace>,
     pub image: Option<u64>,
+    pub stack: Option<u32>,
+    pub entry: Option<Name>,
+    pub stack_syms: bool,
+}
+
+/// The options of a check.
+#[derive(Drop)]
+pub struct CheckOptions {
+    /// The name of the entry function.
+    pub entry: Name,
+    /// How many bytes the stack has, a multiple of 16 and at most 261,984.
+    pub limit: u32,
+    /// The options of the symbolic run; no file lies in its effective memory.
+    pub run: RunOptions,
 }
 
 /// The options of a run.
@@ -86,8 +138,18 @@ pub struct RunOptions {
     pub image: u64,
 }
 
+/// The name of the entry function, `main` where the words don't say.
+fn entry_name(alloc: Global, entry: Option<Name>) -> Result<Name, OutOfMemory>
+    ensures { IfOk result (λ name. name ≡ entry_name entry) }
+{
+    match entry {
+        Some(name) => Ok(name),
+        None => Seq::copied(alloc, b"main"),
+    }
+}
+
 impl Options {
-    ghost use Rattle.spu_tool.specs.Options.{no_options, with_steps, with_mail, with_place, with_image, IsTaken, run_options};
+    ghost use Rattle.spu_tool.specs.Options.{no_options, with_steps, with_mail, with_place, with_image, with_stack, with_entry, with_stack_syms, IsTaken, run_options, link_options, check_options};
 
     /// No option was given.
     pub fn new(alloc: Global) -> Options
@@ -98,6 +160,9 @@ impl Options {
             mail: None,
             places: Seq::new(alloc),
             image: None,
+            stack: None,
+            entry: None,
+            stack_syms: false,
         }
     }
 
@@ -134,6 +199,44 @@ impl Options {
         self.image.is_some()
     }
 
+    /// Takes the value of `--stack`, and answers whether it is new and a value.
+    pub fn take_stack(&mut self, value: &[u8]) -> bool
+        ensures { IsTaken (with_stack self.old value.now) self.new result }
+    {
+        if self.stack.is_some() {
+            return false;
+        }
+        self.stack = stack_of(value);
+        self.stack.is_some()
+    }
+
+    /// Takes the value of `--entry`, and answers whether it is new and a name.
+    pub fn take_entry(&mut self, alloc: Global, value: &[u8]) -> Result<bool, OutOfMemory>
+        ensures { IfOk result (IsTaken (with_entry self.old value.now) self.new) }
+    {
+        if self.entry.is_some() || !is_symbol_name(value) {
+            return Ok(false);
+        }
+        self.entry = Some(Seq::copied(alloc, value)?);
+        Ok(true)
+    }
+
+    /// Takes `--stack-syms`, and answers whether it is new and has no value.
+    pub fn take_stack_syms(&mut self, value: Option<&str>) -> bool
+        ensures { IsTaken (with_stack_syms self.old (option_map (λ v. v.now) value.entry)) self.new result }
+    {
+        match value {
+            Some(_) => false,
+            None => {
+                if self.stack_syms {
+                    return false;
+                }
+                self.stack_syms = true;
+                true
+            }
+        }
+    }
+
     /// Whether there is room for one more area, and none before has its name.
     pub fn has_room(&self, name: &[u8]) -> bool
         ensures { result ≡ has_room self.now.places name.now }
@@ -159,5 +262,28 @@ impl Options {
             places: self.places,
             image: self.image.unwrap_or(DEFAULT_IMAGE),
         }
+    }
+
+    /// The options of a link.
+    pub fn into_link(self, alloc: Global) -> Result<LinkOptions, OutOfMemory>
+        ensures { IfOk result (λ o. o ≡ link_options self) }
+    {
+        Ok(LinkOptions {
+            entry: entry_name(alloc, self.entry)?,
+            limit: self.stack.unwrap_or(DEFAULT_LIMIT),
+            stack_syms: self.stack_syms,
+        })
+    }
+
+    /// The options of a check.
+    pub fn into_check(mut self, alloc: Global) -> Result<CheckOptions, OutOfMemory>
+        ensures { IfOk result (λ o. o ≡ check_options self) }
+    {
+        let entry = entry_name(alloc, self.entry.take())?;
+        Ok(CheckOptions {
+            entry,
+            limit: self.stack.unwrap_or(DEFAULT_LIMIT),
+            run: self.into_run(alloc),
+        })
     }
 }

@@ -1,6 +1,7 @@
 //! What a command line asks for.
 
-use crate::options::RunOptions;
+use crate::options::{CheckOptions, RunOptions};
+use spu_image::LinkOptions;
 use spu_word::Name;
 
 /// What a command makes of the bytes of its files.
@@ -8,14 +9,16 @@ use spu_word::Name;
 pub enum Action {
     /// The object of a text.
     Assemble,
-    /// The executable of an object.
-    Link,
+    /// The executable of objects.
+    Link(LinkOptions),
     /// The map of an executable.
     Map,
     /// The object that embeds an executable, with a handle of this name.
     Embed(Name),
     /// What a run of an executable shows.
     Run(RunOptions),
+    /// What the symbolic run of objects shows.
+    Check(CheckOptions),
 }
 
 /// What a command line asks for: the files that are read, in order, the file that is written, and what is made of them.

@@ -8,23 +8,13 @@ use spu_word::{Bytes, OutOfMemory, Seq};
 use std::alloc::Global;
 use std::test::Fail;
 
-// A text of the first form: it sends 5.
+// A text that sends 5.
 const FIVE: &[u8] = b".text
 .global main
 .type main,@function
 main:
 il $3,5
 wrch 28,$3
-bi $0
-.size main,.-main
-";
-
-// The same with an instruction that `link` doesn't take yet.
-const PRODUCT: &[u8] = b".text
-.global main
-.type main,@function
-main:
-mpy $3,$3,$3
 bi $0
 .size main,.-main
 ";
@@ -82,7 +72,6 @@ fn assembles_links_and_runs(rt: HostRuntime) -> Result<(), Fail> {
     let alloc = rt.alloc();
     let mut outside = Outside::new(alloc, None, None)?;
     outside.files.hold("one.s", FIVE)?;
-    outside.files.hold("two.s", PRODUCT)?;
     outside.files.hold("three.s", b".text\nfoo $1\n")?;
     outside.files.hold("four", &[0, 10, 255, 127])?;
     let calls = [
@@ -100,8 +89,7 @@ fn assembles_links_and_runs(rt: HostRuntime) -> Result<(), Fail> {
             Status::Refused,
         ),
         ("run one.elf --area=a:4096:five", Status::ReadFault),
-        ("asm two.s two.o", Status::Ok),
-        ("link two.elf two.o", Status::Refused),
+        ("link two.elf one.o one.o", Status::Refused),
         ("asm three.s three.o", Status::Refused),
         ("link three.elf one.s", Status::Refused),
         ("run one.o", Status::Refused),
@@ -119,7 +107,7 @@ out 5\nstop 0x2000\nsteps 6
 running\nsteps 2
 out 5\narea a 000aff7f\narea b 000aff7f\nstop 0x2000\nsteps 6
 M3 AreaRange b
-L0 NotBuilt two.o
+L1 DuplicateSymbol main
 A4 UnknownMnemonic 2
 E2 NotElf one.s 0
 E5 WrongKind one.o 16

@@ -1,4 +1,4 @@
-use Rattle.std.proofs.Common.{◌≡◌, ◌+◌, drop, length, map, string_bytes}
+use Rattle.std.proofs.Common.{◌≡◌, ◌+◌, drop, map, string_bytes}
 use Rattle.spu_tool.specs.Arguments.{with_words, nothing_given}
 use Rattle.spu_tool.proofs.arguments.arguments_of.Given as goal
 

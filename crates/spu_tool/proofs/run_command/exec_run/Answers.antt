@@ -1,7 +1,9 @@
 use Rattle.std.proofs.Common.{◌≡◌, ap, arith, ◌∙◌}
 use Rattle.spu_ls.specs.Machine.{State, steps}
 use Rattle.spu_ls.specs.Start.{start}
+use Rattle.spu_ls.specs.Loading.{load_fault}
 use Rattle.spu_ls.specs.View.{state_of}
+use Rattle.spu_tool.specs.Makes.{Runs}
 use Rattle.spu_tool.proofs.Loads.{refused_if, runs_if}
 use Rattle.spu_tool.proofs.run_command.exec_run.Goals as goal
 
@@ -19,4 +21,4 @@ returns-in-Ok c =
     (c.run-end.ensures.state ∙ ap (λ n. steps n (state_of c.in-Ok.machine)) c.from.ensures) c.run-end.ensures.end c.ran.ensures
 
 pub returns-in-Err : goal.returns-in-Err
-returns-in-Err c = refused_if c.args.exec.now c.args.file.now c.args.inputs.now c.args.steps c.in-Err.fault c.load_refusal.result c.in-Err.ensures.fault c.load_refusal.ensures.line c.load_refusal.ensures.told
+returns-in-Err c = refused_if (Runs c.args.exec.now c.args.file.now c.args.inputs.now c.args.steps) (load_fault c.args.exec.now c.args.file.now c.args.inputs.now) c.in-Err.fault c.load_refusal.result c.in-Err.ensures.fault c.load_refusal.ensures.line c.load_refusal.ensures.told

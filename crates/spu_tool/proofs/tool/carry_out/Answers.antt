@@ -1,4 +1,4 @@
-use Rattle.std.proofs.Common.{◌≡◌, List, ℕ, Bor, map, length, ◌∙◌, refl, sym, subst, ap}
+use Rattle.std.proofs.Common.{List, ℕ, Bor, map, length, ◌∙◌, refl, sym, subst, ap}
 use Rattle.std.proofs.lemmas.List.{length-map}
 use Rattle.spu_tool.specs.Makes.{IsComplete}
 use Rattle.spu_tool.specs.Arguments.{asked_of}
