@@ -1,5 +1,5 @@
 -- Line after line of a text is taken.
-use Rattle.std.proofs.Common.{◌≡◌, ℕ, ◌<◌, ◌≤◌, List, [], length, refl, sym, ap, subst, inl, inr, Result, Ok, Err}
+use Rattle.std.proofs.Common.{◌≡◌, ℕ, ◌<◌, ◌≤◌, List, [], length, Some, refl, sym, ap, subst, inl, inr, Result, Ok, Err}
 use Rattle.std.specs.Result.{OnOk}
 use Rattle.spu_word.specs.declared.limits.TheConstants.{MAX_FILE_SIZE}
 use Rattle.spu_text.specs.declared.lexemes.TextFault.{TextFault}
@@ -12,9 +12,7 @@ use Rattle.spu_elf.specs.Validity.{IsValid}
 use Rattle.spu_elf.specs.WellFormed.{IsWellFormed}
 use Rattle.spu_elf.proofs.ReadWhole.{valid_is_well_formed}
 use Rattle.spu_asm.specs.declared.faults.AsmKind.TheVariants as asm
-use Rattle.spu_asm.specs.Objects.{object_of}
-use Rattle.spu_asm.specs.Faults.{Run}
-use Rattle.spu_asm.specs.Assembly.{Assembles, IsFaultOf, fault, line_after, noted, run_of}
+use Rattle.spu_asm.specs.Assembly.{object_of, Fault, first_fault, Run, Assembles, IsFaultOf, fault, line_after, noted, run_of}
 use Rattle.spu_word.specs.declared.sequence.OutOfMemory.{OutOfMemory}
 
 -- a valid object is well formed
@@ -22,7 +20,10 @@ pub made_well : (o : Object) → IsValid o → IsWellFormed o
 made_well o valid = valid_is_well_formed o valid
 
 pub too_long : (text : List ℕ) → MAX_FILE_SIZE < length text → IsFaultOf text (fault 0 asm.TooLarge)
-too_long text h = inl (record { long = h; is = refl })
+too_long text h = inl (h, refl)
+
+pub first_faulty : (text : List ℕ) (f : Fault) → length text ≤ MAX_FILE_SIZE → first_fault (run_of text).faults ≡ Some f → IsFaultOf text f
+first_faulty text f short first = inr (inl (short, first))
 
 pub assembled : (text : List ℕ) (o : Object) → length text ≤ MAX_FILE_SIZE → (run_of text).faults ≡ [] → o ≡ object_of (run_of text).history → IsValid o → Assembles text o
 assembled text o short clean is valid = record { short = short; clean = clean; object = is; valid = valid }

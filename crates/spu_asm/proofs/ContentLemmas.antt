@@ -6,10 +6,8 @@ use Rattle.std.specs.Int.{bytes_high_first}
 use Rattle.std.proofs.lemmas.Bool.{cases_Bool}
 use Rattle.spu_reloc.specs.declared.field.RelocKind.TheVariants.{Addr32}
 use Rattle.spu_reloc.specs.Fields.{number_of}
-use Rattle.spu_asm.specs.Names.{Name}
-use Rattle.spu_asm.specs.Statements.{Relocation, content}
-use Rattle.spu_asm.specs.Contents.{Meaning, fits, complement, one_value, address_value, is_far, joined}
-use Rattle.spu_asm.specs.Values.{plain}
+use Rattle.spu_asm.specs.Names.{Name, plain}
+use Rattle.spu_asm.specs.Statements.{Relocation, content, Meaning, fits, complement, one_value, address_value, is_far, joined}
 use Rattle.spu_asm.specs.declared.faults.AsmKind.{AsmKind}
 use Rattle.spu_asm.specs.declared.faults.AsmKind.TheVariants as asm
 use Rattle.spu_asm.specs.declared.values.Offset.{Offset}

@@ -7,9 +7,8 @@ use Rattle.spu_word.specs.Bytes.{be_digits}
 use Rattle.spu_elf.specs.declared.objects.SecKind.{SecKind}
 use Rattle.spu_elf.specs.declared.objects.SecKind.TheVariants as kinds
 use Rattle.spu_asm.specs.Statements.{Relocation, moved}
-use Rattle.spu_asm.specs.Histories.{stored}
-use Rattle.spu_asm.specs.Summaries.{Draft}
-use Rattle.spu_asm.specs.Cursors.{grown, referring}
+use Rattle.spu_asm.specs.Histories.{stored, Draft}
+use Rattle.spu_asm.specs.Kept.{grown, referring}
 
 pub length_lnops : (n : ℕ) → length (concat (replicate (n / 4) (be_digits 0x00200000))) ≡ n / 4 * 4
 length_lnops n = words (n / 4)

@@ -10,7 +10,7 @@ use Rattle.spu_isa.specs.declared.operation.Layout.{Layout}
 use Rattle.spu_isa.specs.declared.operation.Layout.TheVariants.{Rr, Rrr, Ri7, Ri10, Ri16, Ri18, HintA, HintB, StopForm}
 use Rattle.spu_isa.specs.declared.instruction.Inst.{Inst}
 use Rattle.spu_isa.specs.Table.{row_of, opcode_bits, opcode_of, signed, fields_of, HasNoOtherBits, Decodes}
-use Rattle.spu_asm.specs.Encoding.{field, with_fields, word_of}
+use Rattle.spu_asm.specs.Operands.{to_field, with_fields, word_of}
 
 signed_low : (width n : ℕ) → n < 2 ^ (width - 1) → signed width n ≡ pos n
 signed_low width n h = grind (arith, nat_tests)
@@ -18,21 +18,21 @@ signed_low width n h = grind (arith, nat_tests)
 signed_high : (width n : ℕ) → 2 ^ (width - 1) ≤ n → n < 2 ^ width → signed width n ≡ negsuc (2 ^ width - 1 - n)
 signed_high width n h lt = grind (arith, nat_tests, ints)
 
-field_signed : (width n : ℕ) → n < 2 ^ width → field width (signed width n) ≡ n
+field_signed : (width n : ℕ) → n < 2 ^ width → to_field width (signed width n) ≡ n
 field_signed width n lt = elim (cases_Bool (nat_lt n (2 ^ (width - 1)))) [
-  | inl is ↦ let low : n < 2 ^ (width - 1) = grind (arith, nat_tests) in ap (field width) (signed_low width n low)
+  | inl is ↦ let low : n < 2 ^ (width - 1) = grind (arith, nat_tests) in ap (to_field width) (signed_low width n low)
   | inr not ↦
       let high : 2 ^ (width - 1) ≤ n = grind (arith, nat_tests) in
-      ap (field width) (signed_high width n high lt) ∙ (omega arith)
+      ap (to_field width) (signed_high width n high lt) ∙ (omega arith)
 ]
 
-field_7 : (n : ℕ) → field 7 (signed 7 (n % 2 ^ 7)) ≡ n % 2 ^ 7
+field_7 : (n : ℕ) → to_field 7 (signed 7 (n % 2 ^ 7)) ≡ n % 2 ^ 7
 field_7 n = field_signed 7 (n % 2 ^ 7) (omega arith)
 
-field_10 : (n : ℕ) → field 10 (signed 10 (n % 2 ^ 10)) ≡ n % 2 ^ 10
+field_10 : (n : ℕ) → to_field 10 (signed 10 (n % 2 ^ 10)) ≡ n % 2 ^ 10
 field_10 n = field_signed 10 (n % 2 ^ 10) (omega arith)
 
-field_16 : (n : ℕ) → field 16 (signed 16 (n % 2 ^ 16)) ≡ n % 2 ^ 16
+field_16 : (n : ℕ) → to_field 16 (signed 16 (n % 2 ^ 16)) ≡ n % 2 ^ 16
 field_16 n = field_signed 16 (n % 2 ^ 16) (omega arith)
 
 by_layout : (l : Layout) (op : Op) (w o : ℕ) → w / 2 ^ (WORD_BITS - opcode_bits l) ≡ o → HasNoOtherBits l w → w ≡ with_fields l o (fields_of l op w)

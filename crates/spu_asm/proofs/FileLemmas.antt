@@ -9,12 +9,11 @@ use Rattle.std.proofs.lemmas.Option.{slice_get_within, get_or_from_slice_get}
 use Rattle.spu_elf.specs.declared.objects.Section.{Section}
 use Rattle.spu_elf.specs.Validity.{IsValid, IsValidSection, IsValidSymbol, IsValidReloc}
 use Rattle.spu_elf.proofs.ExtentLemmas.{few_symbols}
-use Rattle.spu_asm.specs.Statements.{Name, Relocation}
-use Rattle.spu_asm.specs.Histories.{Spot}
-use Rattle.spu_asm.specs.Tables.{Rows}
-use Rattle.spu_asm.specs.Summaries.{Draft, Sighting, Cursor}
-use Rattle.spu_asm.specs.Objects.{section_at, symbol_at, is_global_at, is_chosen, ordered_at, reloc_at, relocs_at, object_at}
-use Rattle.spu_asm.specs.Cursors.{is_near, has_near, is_small, is_spellable}
+use Rattle.spu_asm.specs.Names.{Name}
+use Rattle.spu_asm.specs.Statements.{Relocation}
+use Rattle.spu_asm.specs.Histories.{Spot, Rows, Draft, Sighting, Summary}
+use Rattle.spu_asm.specs.Assembly.{section_at, symbol_at, is_global_at, is_chosen, ordered_at, reloc_at, relocs_at, object_at}
+use Rattle.spu_asm.specs.Kept.{is_near, has_near, is_small, is_spellable}
 
 module _ {A : Type 0} (p q : A → Bool) (other : (x : A) → q x ≡ not (p x)) where
   -- a list in two parts is as long
@@ -53,7 +52,7 @@ IsSized e = e.1.spot ≡ None → e.1.size ≡ 0
 small_section : (ss : List Section) (k : ℕ) (t : Section) → All IsValidSection ss → slice_get ss k ≡ Some t → t.size ≤ 262144
 small_section ss k t v at = (subst IsValidSection (get_or_from_slice_get ss k t t at) (All-get_or IsValidSection ss k t (slice_get_within ss k t at) v)).formed.small
 
-module _ (c : Cursor) (v : IsValid (object_at c)) where
+module _ (c : Summary) (v : IsValid (object_at c)) where
   small_symbol : (e : Name × Sighting) → IsValidSymbol (object_at c).sections (symbol_at c.sections e) → IsSized e → is_small e ≡ true
   small_symbol e w sized = by e.1.spot refl
     where

@@ -5,12 +5,12 @@ use Rattle.std.proofs.lemmas.List.{length-replicate}
 use Rattle.std.proofs.lemmas.Bool.{cases_Bool, ltb-false}
 use Rattle.spu_elf.specs.declared.objects.SecKind.{SecKind}
 use Rattle.spu_elf.specs.declared.objects.SecKind.TheVariants as kinds
-use Rattle.spu_asm.specs.Statements.{Name, Effect, instruction, content, space, align, common}
-use Rattle.spu_asm.specs.Histories.{Heading, same, gap, common_spot, filling, added_bytes, label_needs, needs, target_of}
-use Rattle.spu_asm.specs.Tables.{Rows, value_in, opened}
-use Rattle.spu_asm.specs.Summaries.{Draft, kind_at, size_at, Cursor}
-use Rattle.spu_asm.specs.Faults.{is_too_large_at}
-use Rattle.spu_asm.specs.Cursors.{Fits, blank, opened_headings, with_labels}
+use Rattle.spu_asm.specs.Names.{Name}
+use Rattle.spu_asm.specs.Statements.{Effect, instruction, content, space, align, common}
+use Rattle.spu_asm.specs.Histories.{Heading, same, gap, common_spot, filling, added_bytes, label_needs, needs, target_of, Rows, value_in, Draft, kind_at, size_at, Summary}
+use Rattle.spu_asm.specs.Kept.{opened, Fits, blank, opened_headings}
+use Rattle.spu_asm.proofs.Accepting.{with_labels}
+use Rattle.spu_asm.specs.Assembly.{is_too_large_at}
 use Rattle.spu_asm.proofs.DraftLemmas.{length_lnops}
 
 gap_zero : (step : ℕ) → gap step 0 ≡ 0
@@ -58,7 +58,7 @@ keeps_all : (P : Draft → Type 0) (t : Rows Draft) (xs : List Heading) (m : Nam
 keeps_all P t [] m p q = q
 keeps_all P t (x ∷ xs) m p q = keeps_all P (opened t x.name (blank x.kind)) xs m p (keeps P t x.name m (blank x.kind) (p x.kind) q)
 
-all_fit : (c : Cursor) (ls : List Name) (e : Effect) (target : Name) (k : SecKind) → nat_lt 262144 (size_at c.sections target + length (added_bytes (kind_at c.sections target k) (size_at c.sections target) e)) ≡ false → IfSome (value_in (opened_headings (with_labels ls c).sections (needs c.current e)) target) (Fits e)
+all_fit : (c : Summary) (ls : List Name) (e : Effect) (target : Name) (k : SecKind) → nat_lt 262144 (size_at c.sections target + length (added_bytes (kind_at c.sections target k) (size_at c.sections target) e)) ≡ false → IfSome (value_in (opened_headings (with_labels ls c).sections (needs c.current e)) target) (Fits e)
 all_fit c ls e target k h =
     let within = ltb-false _ _ h in
     let new : (j : SecKind) → Fits e (blank j) = λ j. blank_fits e j _ _ within in
@@ -66,7 +66,7 @@ all_fit c ls e target k h =
     (keeps_all (Fits e) c.sections (label_needs c.current ls) target new (there_fits e (value_in c.sections target) k within))
 
 -- the section of an effect, once it is made, has room for it
-pub room : (c : Cursor) (ls : List Name) (e : Effect) → is_too_large_at c e ≡ false → IfSome (value_in (opened_headings (with_labels ls c).sections (needs c.current e)) (target_of e c.current)) (Fits e)
+pub room : (c : Summary) (ls : List Name) (e : Effect) → is_too_large_at c e ≡ false → IfSome (value_in (opened_headings (with_labels ls c).sections (needs c.current e)) (target_of e c.current)) (Fits e)
 room c ls (common n size step) h = all_fit c ls (common n size step) (codes ".bss") kinds.Zero h
 room c ls e h = all_fit c ls e c.current kinds.Code h
 

@@ -13,8 +13,7 @@ use Rattle.spu_isa.specs.Decoding.{all_ops}
 use Rattle.spu_isa.proofs.Agreement.{number_within}
 use Rattle.spu_asm.specs.declared.directives.Directive.{Directive}
 use Rattle.spu_asm.specs.declared.directives.Directive.TheVariants as directive
-use Rattle.spu_asm.specs.Directives.{name_of, all_directives, directive_of}
-use Rattle.spu_asm.specs.StatementReading.{op_of}
+use Rattle.spu_asm.specs.Statements.{name_of, all_directives, directive_of, op_of}
 use Rattle.spu_asm.proofs.JoinTables.{same_is, same_self}
 
 -- ---- directives

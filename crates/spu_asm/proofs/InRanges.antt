@@ -3,6 +3,7 @@
 use Rattle.std.proofs.Common.{◌≡◌, ℕ, ◌+◌, ◌*◌, ◌/◌, ◌%◌, ◌-◌, ◌<◌, ◌≤◌, Bool, true, false, cond, List, [], ◌∷◌, ◌++◌, length, drop, Option, Some, None, Result, Ok, Err, IfOk, refl, sym, subst, ◌∙◌, arith, inl, inr, ℤ, pos, negsuc, ◌≤ℤ◌}
 use Rattle.std.specs.Prelude.{◌==◌, ◌&&◌, ◌||◌, not, nat_le, nat_lt, fold, codes, slice_index, take, if◌then◌else◌}
 use Rattle.std.specs.List.{AllByRecursion, list_all}
+use Rattle.std.specs.Option.{option_map_or}
 use Rattle.std.specs.Str.{bytes_eq}
 use Rattle.std.specs.Str.Parse.{digits_value}
 use Rattle.std.proofs.lemmas.Bool.{cases_Bool, leb-true, ltb-true, ltb-false, lt-ltb}
@@ -27,9 +28,9 @@ use Rattle.spu_asm.specs.declared.slots.Slot.{Slot}
 use Rattle.spu_asm.specs.declared.slots.Slot.TheVariants as slot
 use Rattle.spu_asm.specs.declared.values.Offset.{Offset}
 use Rattle.spu_asm.specs.declared.operands.Coded.{Coded as CodeCoded}
-use Rattle.spu_asm.specs.Names.{Name, number_below_128, is_decimal, register_of, channel_of, without_suffix}
-use Rattle.spu_asm.specs.Values.{Value, plain, here, symbol, value_of, natural}
-use Rattle.spu_asm.specs.Operands.{bounds_of, is_field, slots_of, is_optional, left, scaled, quotient, signed_number, addend_of, place_field, Given, bad, far, register, immediate, nine_bits, place_symbol, target, or_bad, or_far, suffix_of, refers, in_range, below_128, value_given, base_given, given, all_given, Coded, with_field, Reading, read, blank, coded, coded_in, reading_in}
+use Rattle.spu_asm.specs.Names.{Name, number_below_128, is_decimal, register_of, channel_of, without_suffix, Value, plain, here, symbol, value_of, natural}
+use Rattle.spu_asm.specs.Operands.{bounds_of, is_field, slots_of, is_optional, left, scaled, quotient, signed_number, addend_of, place_field, Given, bad, far, register, immediate, nine_bits, place_symbol, target, suffix_of, refers, in_range, below_128, value_given, base_given, given, all_given, Coded, with_field, Reading, read, blank, coded}
+use Rattle.spu_asm.specs.Kept.{coded_in, reading_in}
 use Rattle.spu_reloc.specs.Fields.{kind_on}
 
 -- ---- which fields there are
@@ -353,6 +354,12 @@ range_in Ri18 range.Address n z t e =
 range_in _ _ n z t e = absurd cc
 
 -- ---- operands
+
+abbrev or_bad : {A : Type 0} → (A → Given) → Option A → Given
+or_bad f x = option_map_or f x bad
+
+abbrev or_far : {A : Type 0} → (A → Given) → Option A → Given
+or_far f x = option_map_or f x far
 
 far_gives : (o : Op) (x : Option ℤ) → ((z : ℤ) → x ≡ Some z → InImmediate (row_of o).layout z) → GivesField o (or_far immediate x)
 far_gives o None h = tt

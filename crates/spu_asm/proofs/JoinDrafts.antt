@@ -7,11 +7,10 @@ use Rattle.std.proofs.lemmas.List.{append-nil}
 use Rattle.std.proofs.lemmas.List.Sums.{sum_by-cons}
 use Rattle.spu_elf.specs.declared.objects.SecKind.{SecKind}
 use Rattle.spu_elf.specs.declared.objects.SecKind.TheVariants as kinds
-use Rattle.spu_asm.specs.Statements.{moved, Name, Relocation, Effect, instruction, content, space, align, common}
-use Rattle.spu_asm.specs.Histories.{History, Entry, Heading, heading, same, is_among, current, size_in, bytes_in, relocations_in, added_all, headings, needs, needed, asked, stored, added_bytes, target_of, relocations_by, heading_name}
-use Rattle.spu_asm.specs.Tables.{Rows, edited}
-use Rattle.spu_asm.specs.Summaries.{Draft, draft_in, summary, kind_at, size_at, kind_here, new_bytes, enter}
-use Rattle.spu_asm.specs.Cursors.{blank, grown_by}
+use Rattle.spu_asm.specs.Statements.{moved, Relocation, Effect, instruction, content, space, align, common}
+use Rattle.spu_asm.specs.Names.{Name}
+use Rattle.spu_asm.specs.Histories.{History, Entry, Heading, heading, same, is_among, home_of, size_in, bytes_in, relocations_in, added_all, headings, needs, needed, asked, stored, added_bytes, target_of, relocations_by, heading_name, Rows, Draft, draft_in, summary, kind_at, size_at, kind_here, new_bytes, enter}
+use Rattle.spu_asm.specs.Kept.{edited, blank, grown_by}
 use Rattle.spu_asm.proofs.Standing.{heading_names, Drafts, IsAtHome}
 use Rattle.spu_asm.proofs.JoinTables.{same_is, same_sym, neither, found, among_found, found_key, value_found, turned, edited_tabled, tabled_same}
 use Rattle.spu_asm.proofs.JoinSections.{not_opened_all, kind_from, kind_first, found_padded, found_common}
@@ -103,25 +102,25 @@ kind_told h xs t n k p =
 
 -- the bytes of the statement are those that a section of x's kind takes, where they are x's
 abbrev TakesBytes : History → Effect → Heading → Type 0
-TakesBytes h e x = same (target_of e (current h)) x.name ≡ true → new_bytes (summary h) e ≡ added_bytes x.kind (size_in x.name h) e
+TakesBytes h e x = same (target_of e (home_of h)) x.name ≡ true → new_bytes (summary h) e ≡ added_bytes x.kind (size_in x.name h) e
 
 -- the first section of its name among those of a history and those that a statement needs
 abbrev IsFound : History → List Name → Effect → Heading → Type 0
-IsFound h ls e x = found heading_name (added_all heading_name (headings h) (needed (current h) ls e)) x.name ≡ Some x
+IsFound h ls e x = found heading_name (added_all heading_name (headings h) (needed (home_of h) ls e)) x.name ≡ Some x
 
 -- the sections of a history, by name
 abbrev pub AreKept : History → Type 0
 AreKept h = Drafts (draft_in h) (headings h) (summary h).sections
 
-padded_kind : (h : History) (ls : List Name) (step : ℕ) (x : Heading) → AreKept h → IsFound h ls (align step) x → current h ≡ x.name → kind_here (summary h) ≡ x.kind
+padded_kind : (h : History) (ls : List Name) (step : ℕ) (x : Heading) → AreKept h → IsFound h ls (align step) x → home_of h ≡ x.name → kind_here (summary h) ≡ x.kind
 padded_kind h ls step x kept f e =
-    let here : found heading_name (added_all heading_name (headings h) (needed (current h) ls (align step))) (current h) ≡ Some x = ap (found heading_name (added_all heading_name (headings h) (needed (current h) ls (align step)))) e ∙ f in
-    kind_told h (headings h) (summary h).sections (current h) kinds.Code kept ∙ kind_first (found heading_name (headings h) (current h)) (heading (current h) kinds.Code) x (sym (found_padded (headings h) (current h) ls step) ∙ here)
+    let here : found heading_name (added_all heading_name (headings h) (needed (home_of h) ls (align step))) (home_of h) ≡ Some x = ap (found heading_name (added_all heading_name (headings h) (needed (home_of h) ls (align step)))) e ∙ f in
+    kind_told h (headings h) (summary h).sections (home_of h) kinds.Code kept ∙ kind_first (found heading_name (headings h) (home_of h)) (heading (home_of h) kinds.Code) x (sym (found_padded (headings h) (home_of h) ls step) ∙ here)
 
-common_kind : (h : History) (ls : List Name) (n : Name) (size step : ℕ) (x : Heading) → AreKept h → IsAtHome (headings h) (current h) → IsFound h ls (common n size step) x → codes ".bss" ≡ x.name → kind_at (summary h).sections (codes ".bss") kinds.Zero ≡ x.kind
+common_kind : (h : History) (ls : List Name) (n : Name) (size step : ℕ) (x : Heading) → AreKept h → IsAtHome (headings h) (home_of h) → IsFound h ls (common n size step) x → codes ".bss" ≡ x.name → kind_at (summary h).sections (codes ".bss") kinds.Zero ≡ x.kind
 common_kind h ls n size step x kept at_home f e =
-    let here : found heading_name (added_all heading_name (headings h) (needed (current h) ls (common n size step))) (codes ".bss") ≡ Some x = ap (found heading_name (added_all heading_name (headings h) (needed (current h) ls (common n size step)))) e ∙ f in
-    kind_told h (headings h) (summary h).sections (codes ".bss") kinds.Zero kept ∙ kind_first (found heading_name (headings h) (codes ".bss")) (heading (codes ".bss") kinds.Zero) x (sym (found_common (headings h) (current h) ls n size step at_home) ∙ here)
+    let here : found heading_name (added_all heading_name (headings h) (needed (home_of h) ls (common n size step))) (codes ".bss") ≡ Some x = ap (found heading_name (added_all heading_name (headings h) (needed (home_of h) ls (common n size step)))) e ∙ f in
+    kind_told h (headings h) (summary h).sections (codes ".bss") kinds.Zero kept ∙ kind_first (found heading_name (headings h) (codes ".bss")) (heading (codes ".bss") kinds.Zero) x (sym (found_common (headings h) (home_of h) ls n size step at_home) ∙ here)
 
 place_is : (h : History) (n : Name) (x : Heading) → AreKept h → n ≡ x.name → size_at (summary h).sections n ≡ size_in x.name h
 place_is h n x kept e = size_told h (headings h) (summary h).sections n kept ∙ ap (λ m. size_in m h) e
@@ -129,23 +128,23 @@ place_is h n x kept e = size_told h (headings h) (summary h).sections n kept ∙
 added_is : (e : Effect) (k j : SecKind) (at place : ℕ) → k ≡ j → at ≡ place → added_bytes k at e ≡ added_bytes j place e
 added_is e k j at place p q = rw (p, q) refl
 
-takes_bytes : (h : History) (ls : List Name) (e : Effect) (x : Heading) → AreKept h → IsAtHome (headings h) (current h) → IsFound h ls e x → TakesBytes h e x
+takes_bytes : (h : History) (ls : List Name) (e : Effect) (x : Heading) → AreKept h → IsAtHome (headings h) (home_of h) → IsFound h ls e x → TakesBytes h e x
 takes_bytes h ls (align step) x kept at_home f is =
-    let e : current h ≡ x.name = same_is (current h) x.name is in
-    added_is (align step) _ x.kind _ (size_in x.name h) (padded_kind h ls step x kept f e) (place_is h (current h) x kept e)
+    let e : home_of h ≡ x.name = same_is (home_of h) x.name is in
+    added_is (align step) _ x.kind _ (size_in x.name h) (padded_kind h ls step x kept f e) (place_is h (home_of h) x kept e)
 takes_bytes h ls (common n size step) x kept at_home f is =
     let e : codes ".bss" ≡ x.name = same_is (codes ".bss") x.name is in
     added_is (common n size step) _ x.kind _ (size_in x.name h) (common_kind h ls n size step x kept at_home f e) (place_is h (codes ".bss") x kept e)
 takes_bytes h ls _ x kept at_home f is = refl
 
 -- a section behind a statement
-draft_step : (h : History) (ls : List Name) (e : Effect) (x : Heading) → TakesBytes h e x → turned heading_name (draft_in h) (target_of e (current h)) (grown_by e) x ≡ draft_in (enter h ls e ∷ h) x
-draft_step h ls e x takes = elim (cases_Bool (same (target_of e (current h)) x.name)) [
+draft_step : (h : History) (ls : List Name) (e : Effect) (x : Heading) → TakesBytes h e x → turned heading_name (draft_in h) (target_of e (home_of h)) (grown_by e) x ≡ draft_in (enter h ls e ∷ h) x
+draft_step h ls e x takes = elim (cases_Bool (same (target_of e (home_of h)) x.name)) [
   | inl is ↦
-      let own = own_draft h (enter h ls e) x (same_sym x.name (target_of e (current h)) ∙ is) in
+      let own = own_draft h (enter h ls e) x (same_sym x.name (target_of e (home_of h)) ∙ is) in
       let bytes = takes is in
       rw is (grown_is e (draft_in h x) ∙ ap (λ bs. enlarged (asked e) bs (moved (size_in x.name h) (relocations_by e)) (draft_in h x)) (sym bytes) ∙ sym own)
-  | inr not ↦ rw not (sym (other_draft h (enter h ls e) x (same_sym x.name (target_of e (current h)) ∙ not)))
+  | inr not ↦ rw not (sym (other_draft h (enter h ls e) x (same_sym x.name (target_of e (home_of h)) ∙ not)))
 ]
 
 -- ---- a section that isn't there is blank
@@ -159,35 +158,35 @@ either_way true d = refl
 either_way false d = refl
 
 abbrev Untouched : History → Effect → Heading → Type 0
-Untouched h e x = (turned heading_name (draft_in h) (target_of e (current h)) (grown_by e) x ≡ draft_in h x) × TakesBytes h e x
+Untouched h e x = (turned heading_name (draft_in h) (target_of e (home_of h)) (grown_by e) x ≡ draft_in h x) × TakesBytes h e x
 
 -- the section is not the one that the effect adds to
-elsewhere : (h : History) (e : Effect) (x : Heading) → (same x.name (target_of e (current h)) || false) ≡ false → Untouched h e x
+elsewhere : (h : History) (e : Effect) (x : Heading) → (same x.name (target_of e (home_of h)) || false) ≡ false → Untouched h e x
 elsewhere h e x none =
-    let other : same (target_of e (current h)) x.name ≡ false = same_sym (target_of e (current h)) x.name ∙ (neither (same x.name (target_of e (current h))) false none).0 in
+    let other : same (target_of e (home_of h)) x.name ≡ false = same_sym (target_of e (home_of h)) x.name ∙ (neither (same x.name (target_of e (home_of h))) false none).0 in
     (rw other refl, λ is. absurd (cc))
 
 -- an effect adds to a section that it needs, or adds nothing
-untouched : (h : History) (e : Effect) (x : Heading) → is_among (heading_names (needs (current h) e)) x.name ≡ false → Untouched h e x
+untouched : (h : History) (e : Effect) (x : Heading) → is_among (heading_names (needs (home_of h) e)) x.name ≡ false → Untouched h e x
 untouched h (instruction w ns rs) x none = elsewhere h (instruction w ns rs) x none
 untouched h (content bs rs) x none = elsewhere h (content bs rs) x none
 untouched h (space n) x none = elsewhere h (space n) x none
 untouched h (align step) x none = elsewhere h (align step) x none
 untouched h (common n size step) x none = elsewhere h (common n size step) x none
-untouched h _ x none = (either_way (same (current h) x.name) (draft_in h x), λ is. refl)
+untouched h _ x none = (either_way (same (home_of h) x.name) (draft_in h x), λ is. refl)
 
 -- **the sections behind a statement**
-pub drafts_step : (h : History) (ls : List Name) (e : Effect) (t : Rows Draft) → AreKept h → IsAtHome (headings h) (current h) → Drafts (draft_in h) (added_all heading_name (headings h) (needed (current h) ls e)) t → ((x : Heading) → is_among (heading_names (headings h)) x.name ≡ false → draft_in h x ≡ blank x.kind) → Drafts (draft_in (enter h ls e ∷ h)) (added_all heading_name (headings h) (needed (current h) ls e)) (edited t (target_of e (current h)) (grown_by e))
+pub drafts_step : (h : History) (ls : List Name) (e : Effect) (t : Rows Draft) → AreKept h → IsAtHome (headings h) (home_of h) → Drafts (draft_in h) (added_all heading_name (headings h) (needed (home_of h) ls e)) t → ((x : Heading) → is_among (heading_names (headings h)) x.name ≡ false → draft_in h x ≡ blank x.kind) → Drafts (draft_in (enter h ls e ∷ h)) (added_all heading_name (headings h) (needed (home_of h) ls e)) (edited t (target_of e (home_of h)) (grown_by e))
 drafts_step h ls e t kept at_home p fresh =
-    let xs : List Heading = added_all heading_name (headings h) (needed (current h) ls e) in
+    let xs : List Heading = added_all heading_name (headings h) (needed (home_of h) ls e) in
     record {
       entries =
-          ap (λ u. edited u (target_of e (current h)) (grown_by e)) p.entries
-          ∙ edited_tabled heading_name (draft_in h) (target_of e (current h)) (grown_by e) xs p.distinct
-          ∙ tabled_same heading_name (turned heading_name (draft_in h) (target_of e (current h)) (grown_by e)) (draft_in (enter h ls e ∷ h)) xs p.distinct (λ x f. draft_step h ls e x (takes_bytes h ls e x kept at_home f));
+          ap (λ u. edited u (target_of e (home_of h)) (grown_by e)) p.entries
+          ∙ edited_tabled heading_name (draft_in h) (target_of e (home_of h)) (grown_by e) xs p.distinct
+          ∙ tabled_same heading_name (turned heading_name (draft_in h) (target_of e (home_of h)) (grown_by e)) (draft_in (enter h ls e ∷ h)) xs p.distinct (λ x f. draft_step h ls e x (takes_bytes h ls e x kept at_home f));
       distinct = p.distinct;
       fresh = λ x none.
-          let q = not_opened_all (headings h) (needed (current h) ls e) x.name none in
-          let u = untouched h e x (not_needed (current h) ls e x.name q.0) in
+          let q = not_opened_all (headings h) (needed (home_of h) ls e) x.name none in
+          let u = untouched h e x (not_needed (home_of h) ls e x.name q.0) in
           sym (draft_step h ls e x u.1) ∙ u.0 ∙ fresh x q.1;
     }

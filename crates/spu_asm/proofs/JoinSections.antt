@@ -4,11 +4,10 @@ use Rattle.std.specs.Prelude.{is_some, if◌then◌else◌}
 use Rattle.std.proofs.lemmas.Bool.{cases_Bool}
 use Rattle.spu_elf.specs.declared.objects.SecKind.{SecKind}
 use Rattle.spu_elf.specs.declared.objects.SecKind.TheVariants as kinds
-use Rattle.spu_asm.specs.Statements.{Name, align, common}
-use Rattle.spu_asm.specs.Histories.{Heading, heading, same, is_among, added, added_all, needed, heading_name, itself}
-use Rattle.spu_asm.specs.Tables.{Distinct, Rows, opened}
-use Rattle.spu_asm.specs.Summaries.{tabled, Draft}
-use Rattle.spu_asm.specs.Cursors.{blank, opened_headings}
+use Rattle.spu_asm.specs.Names.{Name}
+use Rattle.spu_asm.specs.Statements.{align, common}
+use Rattle.spu_asm.specs.Histories.{Heading, heading, same, is_among, added, added_all, needed, heading_name, itself, Rows, tabled, Draft}
+use Rattle.spu_asm.specs.Kept.{Distinct, opened, blank, opened_headings}
 use Rattle.spu_asm.proofs.Standing.{heading_names, Drafts, IsAtHome}
 use Rattle.spu_asm.proofs.JoinTables.{same_is, same_self, either_not, not_seen, seen_distinct, found, among_found}
 

@@ -3,11 +3,10 @@ use Rattle.std.proofs.Common.{◌≡◌, ℕ, false, List, [], ◌∷◌, map, O
 use Rattle.std.specs.Prelude.{is_some, option_and_then}
 use Rattle.std.proofs.Math.Path.{fun_ext}
 use Rattle.std.proofs.lemmas.Bool.{cases_Bool}
-use Rattle.spu_asm.specs.Statements.{Name, Effect, exports, has_kind, ends_here, has_size, common}
-use Rattle.spu_asm.specs.Histories.{History, Spot, same, is_among, current, size_in, common_spot, added, added_all, named_by, itself}
-use Rattle.spu_asm.specs.Tables.{Distinct, Rows, edited, opened}
-use Rattle.spu_asm.specs.Summaries.{enter, tabled, amended, unseen, placed, told_of, sighting_in, Sighting, spot_at}
-use Rattle.spu_asm.specs.Cursors.{told, told_all}
+use Rattle.spu_asm.specs.Names.{Name}
+use Rattle.spu_asm.specs.Statements.{Effect, exports, has_kind, ends_here, has_size, common}
+use Rattle.spu_asm.specs.Histories.{History, Spot, same, is_among, home_of, size_in, common_spot, added, added_all, named_by, itself, Rows, enter, tabled, amended, unseen, placed, told_of, sighting_in, Sighting, spot_at}
+use Rattle.spu_asm.specs.Kept.{Distinct, edited, opened, told, told_all}
 use Rattle.spu_asm.proofs.Standing.{Tells}
 use Rattle.spu_asm.proofs.JoinTables.{same_sym, either_not, not_seen, seen_distinct, found, among_found, found_key, value_found, turned, edited_tabled}
 
@@ -79,11 +78,11 @@ told_once (common n size step) at spot s = refl
 told_once _ at spot s = refl
 
 abbrev pub label_place : History → Spot
-label_place h = record { section = current h; offset = size_in (current h) h }
+label_place h = record { section = home_of h; offset = size_in (home_of h) h }
 
 -- what an effect tells of symbols behind a history
 abbrev pub told_behind : History → Effect → Sighting → Sighting
-told_behind h e = told_of e (size_in (current h) h) (common_spot e (size_in (codes ".bss") h))
+told_behind h e = told_of e (size_in (home_of h) h) (common_spot e (size_in (codes ".bss") h))
 
 -- **the symbols behind a statement**
 pub symbols_step : (h : History) (ls : List Name) (e : Effect) (ms : List Name) (t : Rows Sighting) → Tells (sighting_in h) ms t → Tells (sighting_in (enter h ls e ∷ h)) (added_all itself (added_all itself ms ls) (named_by e)) (told_all (told_all t ls (placed (label_place h))) (named_by e) (told_behind h e))

@@ -3,10 +3,9 @@ use Rattle.std.proofs.Common.{◌≡◌, Bool, true, false, List, [], ◌∷◌,
 use Rattle.std.specs.Prelude.{◌||◌, is_some, if◌then◌else◌}
 use Rattle.std.proofs.lemmas.Bool.{cases_Bool}
 use Rattle.std.proofs.lemmas.Slice.Eq.{bytes_eq-Decides}
-use Rattle.spu_asm.specs.Statements.{Name}
-use Rattle.spu_asm.specs.Histories.{same, is_among, added, itself}
-use Rattle.spu_asm.specs.Tables.{Distinct, value_in, edited}
-use Rattle.spu_asm.specs.Summaries.{tabled}
+use Rattle.spu_asm.specs.Names.{Name}
+use Rattle.spu_asm.specs.Histories.{same, is_among, added, itself, value_in, tabled}
+use Rattle.spu_asm.specs.Kept.{Distinct, edited}
 
 -- ---- names
 

@@ -3,12 +3,11 @@ use Rattle.std.proofs.Common.{◌≡◌, false, List, [], ◌∷◌, codes, refl
 use Rattle.std.proofs.lemmas.Bool.{cases_Bool}
 use Rattle.spu_elf.specs.declared.objects.SecKind.{SecKind}
 use Rattle.spu_elf.specs.declared.objects.SecKind.TheVariants as kinds
-use Rattle.spu_asm.specs.Statements.{Name, Effect, section, may_be_common}
-use Rattle.spu_asm.specs.Histories.{History, Entry, Heading, heading, same, is_among, current, home_after, size_in, added_all, headings, label_needs, needs, needed, target_of, named_by, allowed_by, added, symbol_names, local_names, itself, heading_name}
-use Rattle.spu_asm.specs.Tables.{Rows, edited, opened}
-use Rattle.spu_asm.specs.Summaries.{enter, Draft, Sighting, Cursor, draft_in, tabled, placed, summary, size_at}
-use Rattle.spu_asm.specs.Cursors.{blank, grown_by, opened_headings, told_all, local_by, accepted_at}
-use Rattle.spu_asm.specs.Progressing.{IsMade}
+use Rattle.spu_asm.specs.Names.{Name}
+use Rattle.spu_asm.specs.Statements.{Effect, section, may_be_common}
+use Rattle.spu_asm.specs.Histories.{History, Entry, Heading, heading, same, is_among, home_of, home_after, size_in, added_all, headings, label_needs, needs, needed, target_of, named_by, allowed_by, added, symbol_names, local_names, itself, heading_name, Rows, enter, Draft, Summary, draft_in, tabled, placed, summary, size_at}
+use Rattle.spu_asm.specs.Kept.{edited, opened, blank, grown_by, opened_headings, told_all, IsMade}
+use Rattle.spu_asm.proofs.Accepting.{local_by, accepted_at, whole}
 use Rattle.spu_asm.proofs.Standing.{heading_names, Drafts, IsAtHome, Holds}
 use Rattle.spu_asm.proofs.JoinTables.{same_self, neither}
 use Rattle.spu_asm.proofs.JoinSymbols.{label_place, told_behind, symbols_step}
@@ -48,13 +47,13 @@ locals_step _ ns = refl
 
 -- ---- the section in which the next statement stands
 
-stays_home : (h : History) (ls : List Name) (e : Effect) → IsAtHome (headings h) (current h) → IsAtHome (added_all heading_name (headings h) (needed (current h) ls e)) (current h)
-stays_home h ls e at_home none = at_home (not_opened_all (headings h) (needed (current h) ls e) (current h) none).1
+stays_home : (h : History) (ls : List Name) (e : Effect) → IsAtHome (headings h) (home_of h) → IsAtHome (added_all heading_name (headings h) (needed (home_of h) ls e)) (home_of h)
+stays_home h ls e at_home none = at_home (not_opened_all (headings h) (needed (home_of h) ls e) (home_of h) none).1
 
-goes_home : (h : History) (ls : List Name) (e : Effect) → IsAtHome (headings h) (current h) → IsAtHome (headings (enter h ls e ∷ h)) (home_after e (current h))
+goes_home : (h : History) (ls : List Name) (e : Effect) → IsAtHome (headings h) (home_of h) → IsAtHome (headings (enter h ls e ∷ h)) (home_after e (home_of h))
 goes_home h ls (section n k) at_home none =
-    let opens : is_among (heading_names (needed (current h) ls (section n k))) n ≡ false = (not_opened_all (headings h) (needed (current h) ls (section n k)) n none).0 in
-    let other : same n n ≡ false = (neither (same n n) false (not_needed (current h) ls (section n k) n opens)).0 in
+    let opens : is_among (heading_names (needed (home_of h) ls (section n k))) n ≡ false = (not_opened_all (headings h) (needed (home_of h) ls (section n k)) n none).0 in
+    let other : same n n ≡ false = (neither (same n n) false (not_needed (home_of h) ls (section n k) n opens)).0 in
     absurd (let good = same_self n in cc)
 goes_home h ls e at_home none = stays_home h ls e at_home none
 
@@ -65,48 +64,45 @@ opened_is t home [] e = refl
 opened_is t home (l ∷ ls) e = refl
 
 -- the cursor behind a statement, by the history
-abbrev After : History → List Name → Effect → Cursor → Cursor
+abbrev After : History → List Name → Effect → Summary → Summary
 After h ls e c = record {
-  current = home_after e (current h);
-  sections = edited (opened_headings c.sections (needed (current h) ls e)) (target_of e (current h)) (grown_by e);
+  current = home_after e (home_of h);
+  sections = edited (opened_headings c.sections (needed (home_of h) ls e)) (target_of e (home_of h)) (grown_by e);
   symbols = told_all (told_all c.symbols ls (placed (label_place h))) (named_by e) (told_behind h e);
   locals = local_by e c.locals;
 }
 
-opened_drafts : (h : History) (ls : List Name) (e : Effect) (c : Cursor) → Holds h c → Drafts (draft_in h) (added_all heading_name (headings h) (needed (current h) ls e)) (opened_headings c.sections (needed (current h) ls e))
-opened_drafts h ls e c p = open_all (draft_in h) (headings h) c.sections (needed (current h) ls e) p.sections
+opened_drafts : (h : History) (ls : List Name) (e : Effect) (c : Summary) → Holds h c → Drafts (draft_in h) (added_all heading_name (headings h) (needed (home_of h) ls e)) (opened_headings c.sections (needed (home_of h) ls e))
+opened_drafts h ls e c p = open_all (draft_in h) (headings h) c.sections (needed (home_of h) ls e) p.sections
 
-after_is : (h : History) (ls : List Name) (e : Effect) (c : Cursor) → Holds h c → accepted_at c ls e ≡ After h ls e c
+after_is : (h : History) (ls : List Name) (e : Effect) (c : Summary) → Holds h c → accepted_at c ls e ≡ After h ls e c
 after_is h ls e c p =
-    let xs : List Heading = added_all heading_name (headings h) (needed (current h) ls e) in
-    let t : Rows Draft = opened_headings c.sections (needed (current h) ls e) in
+    let xs : List Heading = added_all heading_name (headings h) (needed (home_of h) ls e) in
+    let t : Rows Draft = opened_headings c.sections (needed (home_of h) ls e) in
     let d : Drafts (draft_in h) xs t = opened_drafts h ls e c p in
-    let size : size_at c.sections (current h) ≡ size_in (current h) h = size_told h (headings h) c.sections (current h) p.sections in
-    let more : size_at t (current h) ≡ size_in (current h) h = size_told h xs t (current h) d in
+    let size : size_at c.sections (home_of h) ≡ size_in (home_of h) h = size_told h (headings h) c.sections (home_of h) p.sections in
+    let more : size_at t (home_of h) ≡ size_in (home_of h) h = size_told h xs t (home_of h) d in
     let bss : size_at t (codes ".bss") ≡ size_in (codes ".bss") h = size_told h xs t (codes ".bss") d in
-    rw (p.current, opened_is c.sections (current h) ls e, size, more, bss) refl
+    rw (p.current, opened_is c.sections (home_of h) ls e, size, more, bss) refl
 
-kept : (h : History) (c : Cursor) → Holds h c → AreKept h
+kept : (h : History) (c : Summary) → Holds h c → AreKept h
 kept h c p = record { entries = refl; distinct = p.sections.distinct; fresh = p.sections.fresh }
 
-after_holds : (h : History) (ls : List Name) (e : Effect) (c : Cursor) → Holds h c → Holds (enter h ls e ∷ h) (After h ls e c)
+after_holds : (h : History) (ls : List Name) (e : Effect) (c : Summary) → Holds h c → Holds (enter h ls e ∷ h) (After h ls e c)
 after_holds h ls e c p = record {
   current = refl;
-  sections = drafts_step h ls e (opened_headings c.sections (needed (current h) ls e)) (kept h c p) p.at_home (opened_drafts h ls e c p) p.sections.fresh;
+  sections = drafts_step h ls e (opened_headings c.sections (needed (home_of h) ls e)) (kept h c p) p.at_home (opened_drafts h ls e c p) p.sections.fresh;
   symbols = symbols_step h ls e (symbol_names h) c.symbols p.symbols;
   locals = ap (local_by e) p.locals ∙ locals_step e (local_names h);
   at_home = goes_home h ls e p.at_home;
 }
 
-step : (h : History) (c : Cursor) (ls : List Name) (e : Effect) → Holds h c → Holds (enter h ls e ∷ h) (accepted_at c ls e)
+step : (h : History) (c : Summary) (ls : List Name) (e : Effect) → Holds h c → Holds (enter h ls e ∷ h) (accepted_at c ls e)
 step h c ls e p = subst (Holds (enter h ls e ∷ h)) (sym (after_is h ls e c p)) (after_holds h ls e c p)
 
 -- ---- **what is kept is what the statements come to**
 
-whole : (a b : Name) (ss ts : Rows Draft) (xs ys : Rows Sighting) (us vs : Rows (Unit {0})) → a ≡ b → ss ≡ ts → xs ≡ ys → us ≡ vs → ◌≡◌ {A = Cursor} (record { current = a; sections = ss; symbols = xs; locals = us }) (record { current = b; sections = ts; symbols = ys; locals = vs })
-whole a b ss ts xs ys us vs d e f g = cc
-
-is_summary : (h : History) (c : Cursor) → Holds h c → c ≡ summary h
+is_summary : (h : History) (c : Summary) → Holds h c → c ≡ summary h
 is_summary h c p = whole c.current _ c.sections _ c.symbols _ c.locals _ p.current p.sections.entries p.symbols.entries p.locals
 
 pub stands : (h : History) → IsMade h → Holds h (summary h)

@@ -4,6 +4,7 @@ pub mod JoinTables
 pub mod JoinSymbols
 pub mod JoinSections
 pub mod JoinDrafts
+pub mod Accepting
 pub mod Joins
 pub mod TableLemmas
 pub mod DraftLemmas

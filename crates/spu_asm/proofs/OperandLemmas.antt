@@ -2,6 +2,7 @@
 use Rattle.std.proofs.Common.{◌≡◌, ℕ, ◌<◌, true, arith, length, List, [], ◌∷◌, ◌++◌, Option, Some, None, Ok, Err, refl, sym}
 use Rattle.std.specs.Prelude.{fold, map, option_map}
 use Rattle.std.specs.Borrow.{Bor}
+use Rattle.std.specs.Option.{option_to_list}
 use Rattle.spu_text.specs.declared.line.Piece.{Piece}
 use Rattle.spu_text.specs.Lexemes.{Lexeme}
 use Rattle.spu_isa.specs.declared.operation.Op.{Op}
@@ -15,14 +16,10 @@ use Rattle.spu_asm.specs.declared.slots.Slot.{Slot}
 use Rattle.spu_asm.specs.declared.slots.Slot.TheVariants as slot
 use Rattle.spu_asm.specs.declared.operands.Target.{Target as CodeTarget}
 use Rattle.spu_asm.specs.declared.operands.Coded.{Coded as CodeCoded}
-use Rattle.spu_asm.specs.Names.{Name}
-use Rattle.spu_asm.specs.Values.{parted}
-use Rattle.spu_asm.specs.Parts.{lexemes, parts_left}
-use Rattle.spu_asm.specs.Encoding.{word_of}
-use Rattle.spu_asm.specs.Statements.{Relocation, relocations_by, listed, target_name, instruction_of}
-use Rattle.spu_asm.specs.Directives.{common_by}
-use Rattle.spu_asm.specs.StatementReading.{instructed}
-use Rattle.spu_asm.specs.Operands.{Given, bad, Target, Reading, value_given, read, all_given, coded, target_in, coded_in}
+use Rattle.spu_asm.specs.Names.{Name, parted}
+use Rattle.spu_asm.specs.Kept.{lexemes, parts_left, instruction_of, target_in, coded_in}
+use Rattle.spu_asm.specs.Operands.{word_of, Given, bad, Target, Reading, value_given, read, all_given, coded}
+use Rattle.spu_asm.specs.Statements.{Relocation, relocations_by, common_by, instructed}
 use Rattle.spu_asm.proofs.PartLemmas.{has_part}
 
 pub fold_twice : (r : Reading) (xs ys : List Given) → fold read r (xs ++ ys) ≡ fold read (fold read r xs) ys
@@ -64,11 +61,11 @@ common_extra n ts s a b f first second = let part = has_part 44 (lexemes f.now) 
 
 -- ---- the instruction
 
-names_listed : (p : Option (Bor (List ℕ))) → listed (option_map (λ (w : Bor (List ℕ)). w.now) p) ≡ map (λ (w : Bor (List ℕ)). w.now) (listed p)
+names_listed : (p : Option (Bor (List ℕ))) → option_to_list (option_map (λ (w : Bor (List ℕ)). w.now) p) ≡ map (λ (w : Bor (List ℕ)). w.now) (option_to_list p)
 names_listed None = refl
 names_listed (Some w) = refl
 
-targets_listed : (t : Option CodeTarget) → map (λ (x : Target). x.name) (listed (option_map target_in t)) ≡ map target_name (listed t)
+targets_listed : (t : Option CodeTarget) → map (λ (x : Target). x.name) (option_to_list (option_map target_in t)) ≡ map (λ (x : CodeTarget). x.name.now) (option_to_list t)
 targets_listed None = refl
 targets_listed (Some t) = refl
 

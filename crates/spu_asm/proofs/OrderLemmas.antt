@@ -8,12 +8,11 @@ use Rattle.spu_elf.specs.declared.objects.Section.{Section}
 use Rattle.spu_elf.specs.declared.objects.Symbol.{Symbol}
 use Rattle.spu_elf.specs.declared.objects.Reloc.{Reloc}
 use Rattle.spu_elf.specs.declared.objects.Object.{Object}
-use Rattle.spu_asm.specs.Statements.{Name, Relocation}
-use Rattle.spu_asm.specs.Histories.{same, is_among}
-use Rattle.spu_asm.specs.Tables.{Rows, index_in, opened, with_values, Distinct}
-use Rattle.spu_asm.specs.Summaries.{Draft, Sighting}
-use Rattle.spu_asm.specs.Objects.{is_global_at, is_chosen, chosen, ordered_at, reloc_at, relocs_at}
-use Rattle.spu_asm.specs.Cursors.{numbered}
+use Rattle.spu_asm.specs.Names.{Name}
+use Rattle.spu_asm.specs.Statements.{Relocation}
+use Rattle.spu_asm.specs.Histories.{same, is_among, Rows, index_in, Draft, Sighting}
+use Rattle.spu_asm.specs.Kept.{opened, with_values, Distinct, numbered}
+use Rattle.spu_asm.specs.Assembly.{is_global_at, is_chosen, chosen, ordered_at, reloc_at, relocs_at}
 use Rattle.spu_asm.proofs.TableLemmas.{index_with}
 use Rattle.spu_asm.proofs.JoinTables.{same_sym, neither}
 

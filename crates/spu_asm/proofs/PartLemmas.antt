@@ -3,11 +3,11 @@ use Rattle.std.proofs.Common.{◌≡◌, ℕ, suc, ◌+◌, ◌<◌, ◌≤◌, 
 use Rattle.std.proofs.lemmas.Bool.{cases_Bool}
 use Rattle.std.proofs.lemmas.Bool.Decides.{nat_tests}
 use Rattle.std.specs.Prelude.{not}
-use Rattle.std.specs.List.{position, position_or_len}
+use Rattle.std.specs.List.{position, position_or_len, onto_first as onto}
 use Rattle.spu_text.specs.declared.line.Piece.{Piece}
 use Rattle.spu_text.specs.Lexemes.{Lexeme, lexeme_of}
-use Rattle.spu_asm.specs.Values.{is_mark, onto, parted}
-use Rattle.spu_asm.specs.Parts.{lexemes}
+use Rattle.spu_asm.specs.Names.{is_mark, parted}
+use Rattle.spu_asm.specs.Kept.{lexemes}
 
 abbrev cuts : ℕ → Piece → Bool
 cuts c p = is_mark c (lexeme_of p)

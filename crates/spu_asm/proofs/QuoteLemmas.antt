@@ -4,7 +4,7 @@ use Rattle.std.proofs.lemmas.Bool.Decides.{nat_tests}
 use Rattle.std.proofs.lemmas.List.{take_all}
 use Rattle.std.specs.Prelude.{not, option_map, is_some}
 use Rattle.std.specs.Char.{digit_value}
-use Rattle.spu_asm.specs.Quotes.{is_octal, letter_of, octal_len, escape, front, unescaped}
+use Rattle.spu_asm.specs.Statements.{is_octal, letter_of, octal_len, escape, front, unescaped}
 
 digit_is : (c : ℕ) → is_octal c ≡ true → digit_value c ≡ c - 48
 unfolding is_octal

@@ -3,15 +3,18 @@ use Rattle.std.proofs.Common.{◌≡◌, ℕ, Bool, true, false, List, [], ◌�
 use Rattle.std.specs.Prelude.{◌&&◌, not, is_none, if◌then◌else◌}
 use Rattle.std.specs.List.{AllByRecursion}
 use Rattle.std.proofs.lemmas.Bool.{cases_Bool}
-use Rattle.spu_asm.specs.Statements.{Name, Effect, exports, has_kind, ends_here, has_size, common}
-use Rattle.spu_asm.specs.Histories.{History, Spot, same, is_among, named_by, symbol_names, itself}
-use Rattle.spu_asm.specs.Summaries.{Sighting, enter, tabled, amended, placed, told_of, sighting_in, summary, spot_at}
-use Rattle.spu_asm.specs.Faults.{is_against_rules_at}
-use Rattle.spu_asm.specs.Progressing.{IsMade, IsSizedHistory}
+use Rattle.spu_asm.specs.Names.{Name}
+use Rattle.spu_asm.specs.Statements.{Effect, exports, has_kind, ends_here, has_size, common}
+use Rattle.spu_asm.specs.Histories.{History, Spot, same, is_among, named_by, symbol_names, itself, Sighting, enter, tabled, amended, placed, told_of, sighting_in, summary, spot_at}
+use Rattle.spu_asm.specs.Assembly.{is_against_rules_at}
+use Rattle.spu_asm.specs.Kept.{IsMade}
 use Rattle.spu_asm.proofs.FileLemmas.{IsSized}
 use Rattle.spu_asm.proofs.JoinTables.{same_is}
 use Rattle.spu_asm.proofs.JoinSymbols.{label_place, told_behind, spot_told}
 use Rattle.spu_asm.proofs.Joins.{stands}
+
+abbrev pub IsSizedHistory : History → Type 0
+IsSizedHistory h = (n : Name) → (sighting_in h n).spot ≡ None → (sighting_in h n).size ≡ 0
 
 -- an effect takes no symbol's place
 told_keeps : (e : Effect) (at : ℕ) (spot : Spot) (b : Bool) (s : Sighting) → (if b then told_of e at spot s else s).spot ≡ None → s.spot ≡ None

@@ -1,11 +1,8 @@
 -- When sections and symbols by name stand for the statements that were accepted.
 use Rattle.std.proofs.Common.{◌≡◌, false, List, map, codes}
-use Rattle.spu_asm.specs.Statements.{Name}
-use Rattle.spu_asm.specs.Histories
-use Rattle.spu_asm.specs.Histories.{History, Heading, is_among, headings, symbol_names, local_names, heading_name, itself}
-use Rattle.spu_asm.specs.Tables.{Rows, Distinct}
-use Rattle.spu_asm.specs.Summaries.{Draft, Sighting, Cursor, unseen, draft_in, sighting_in, tabled}
-use Rattle.spu_asm.specs.Cursors.{blank}
+use Rattle.spu_asm.specs.Names.{Name}
+use Rattle.spu_asm.specs.Histories.{home_of, History, Heading, is_among, headings, symbol_names, local_names, heading_name, itself, Rows, Draft, Sighting, Summary, unseen, draft_in, sighting_in, tabled}
+use Rattle.spu_asm.specs.Kept.{Distinct, blank}
 
 abbrev pub heading_names : List Heading → List Name
 heading_names xs = map heading_name xs
@@ -26,9 +23,9 @@ pub record Tells (F : Name → Sighting) (ms : List Name) (t : Rows Sighting) : 
   pub distinct : Distinct ms
   pub fresh : (n : Name) → is_among ms n ≡ false → F n ≡ unseen
 
-pub record Holds (h : History) (c : Cursor) : Type 0 where
-  pub current : c.current ≡ Histories.current h
+pub record Holds (h : History) (c : Summary) : Type 0 where
+  pub current : c.current ≡ home_of h
   pub sections : Drafts (draft_in h) (headings h) c.sections
   pub symbols : Tells (sighting_in h) (symbol_names h) c.symbols
   pub locals : c.locals ≡ tabled itself (λ n. tt) (local_names h)
-  pub at_home : IsAtHome (headings h) (Histories.current h)
+  pub at_home : IsAtHome (headings h) (home_of h)

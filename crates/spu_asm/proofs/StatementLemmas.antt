@@ -3,12 +3,11 @@ use Rattle.std.proofs.Common.{◌≡◌, ℕ, zero, suc, Bool, true, false, cond
 use Rattle.std.specs.Prelude.{◌==◌, ◌&&◌, map, is_some}
 use Rattle.std.proofs.lemmas.List.{map-append, drop-drop}
 use Rattle.std.specs.Borrow.{Bor}
-use Rattle.spu_asm.specs.Names.{is_symbol}
-use Rattle.spu_asm.specs.Statements.{Name}
+use Rattle.spu_asm.specs.Names.{is_symbol, Name}
 use Rattle.spu_text.specs.declared.line.Piece.{Piece}
 use Rattle.spu_text.specs.Lexemes.{Lexeme, word, mark}
-use Rattle.spu_asm.specs.Parts.{lexemes}
-use Rattle.spu_asm.specs.StatementReading.{label_of, labels_of, behind_labels}
+use Rattle.spu_asm.specs.Kept.{lexemes, label_of}
+use Rattle.spu_asm.specs.Statements.{labels_of, behind_labels}
 
 pub record OneLabel (ts : List Lexeme) (n : Name) : Type 0 where
   pub names : labels_of ts ≡ n ∷ labels_of (drop 2 ts)

@@ -1,13 +1,17 @@
 -- What is told of symbols.
 use Rattle.std.proofs.Common.{◌≡◌, ℕ, ◌+◌, ◌<◌, true, List, [], ◌∷◌, ◌++◌, map, length, take, get_or, refl, sym, ap, ◌∙◌, inl, inr}
+use Rattle.std.specs.Prelude.{unwrap_or}
 use Rattle.std.proofs.lemmas.Bool.{cases_Bool}
 use Rattle.std.proofs.lemmas.List.{take_more, map-append}
 use Rattle.std.proofs.lemmas.Slice.Eq.{bytes_eq-Decides}
-use Rattle.spu_asm.specs.Statements.{Name, Relocation}
-use Rattle.spu_asm.specs.Histories.{same, relocation_names}
-use Rattle.spu_asm.specs.Tables.{Rows, edited, put}
-use Rattle.spu_asm.specs.Summaries.{Sighting}
-use Rattle.spu_asm.specs.Cursors.{state_at, told, told_all}
+use Rattle.spu_asm.specs.Names.{Name}
+use Rattle.spu_asm.specs.Statements.{Relocation}
+use Rattle.spu_asm.specs.Histories.{same, value_in, Rows, Sighting, unseen}
+use Rattle.spu_asm.specs.Kept.{edited, put, told, told_all}
+
+-- what is known of a name
+abbrev pub state_at : Rows Sighting → Name → Sighting
+state_at t n = unwrap_or (value_in t n) unseen
 
 same_self : (n : Name) → same n n ≡ true
 same_self n = (bytes_eq-Decides n n).1 refl
@@ -31,11 +35,11 @@ edited_same (e ∷ es) n = elim (cases_Bool (same n e.0)) [
   | inr not ↦ rw not (ap (λ (t : Rows Sighting). e ∷ t) (edited_same es n))
 ]
 
-pub mentioned_more : {A : Type 0} (f : A → Relocation) (xs : List A) (i : ℕ) (x : A) (t0 t1 t2 : Rows Sighting) → i < length xs → t1 ≡ told_all t0 (relocation_names (map f (take i xs))) (λ s. s) → t2 ≡ told t1 (f (get_or xs i x)).name (λ s. s) → t2 ≡ told_all t0 (relocation_names (map f (take (i + 1) xs))) (λ s. s)
+pub mentioned_more : {A : Type 0} (f : A → Relocation) (xs : List A) (i : ℕ) (x : A) (t0 t1 t2 : Rows Sighting) → i < length xs → t1 ≡ told_all t0 (map (λ (r : Relocation). r.name) (map f (take i xs))) (λ s. s) → t2 ≡ told t1 (f (get_or xs i x)).name (λ s. s) → t2 ≡ told_all t0 (map (λ (r : Relocation). r.name) (map f (take (i + 1) xs))) (λ s. s)
 mentioned_more f xs i x t0 t1 t2 lt p q =
     let more : map f (take i xs) ++ f (get_or xs i x) ∷ [] ≡ map f (take (i + 1) xs) = sym (map-append f (take i xs) (get_or xs i x ∷ [])) ∙ ap (map f) (sym (take_more xs i x lt)) in
-    q ∙ ap (λ (t : Rows Sighting). told t (f (get_or xs i x)).name (λ s. s)) p ∙ sym (push (map f (take i xs)) t0 (f (get_or xs i x))) ∙ ap (λ (rs : List Relocation). told_all t0 (relocation_names rs) (λ s. s)) more
+    q ∙ ap (λ (t : Rows Sighting). told t (f (get_or xs i x)).name (λ s. s)) p ∙ sym (push (map f (take i xs)) t0 (f (get_or xs i x))) ∙ ap (λ (rs : List Relocation). told_all t0 (map (λ (r : Relocation). r.name) rs) (λ s. s)) more
   where
-    push : (rs : List Relocation) (t : Rows Sighting) (r : Relocation) → told_all t (relocation_names (rs ++ r ∷ [])) (λ s. s) ≡ told (told_all t (relocation_names rs) (λ s. s)) r.name (λ s. s)
+    push : (rs : List Relocation) (t : Rows Sighting) (r : Relocation) → told_all t (map (λ (r : Relocation). r.name) (rs ++ r ∷ [])) (λ s. s) ≡ told (told_all t (map (λ (r : Relocation). r.name) rs) (λ s. s)) r.name (λ s. s)
     push [] t r = refl
     push (s ∷ ss) t r = push ss (told t s.name (λ s. s)) r

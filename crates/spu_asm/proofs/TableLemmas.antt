@@ -11,9 +11,9 @@ use Rattle.indexmap.specs.IndexMap.{insert_entry, set_value_at}
 use Rattle.indexmap.proofs.MapLemmas.{Found-position, Missing-position, some_index}
 use Rattle.std.proofs.lemmas.Bool.Decides.{nat_tests}
 use Rattle.spu_asm.proofs.JoinTables.{same_is}
-use Rattle.spu_asm.specs.Statements.{Name}
-use Rattle.spu_asm.specs.Histories.{same, is_among}
-use Rattle.spu_asm.specs.Tables.{Distinct, Rows, value_in, place_in, index_in, opened, edited, put, with_values}
+use Rattle.spu_asm.specs.Names.{Name}
+use Rattle.spu_asm.specs.Histories.{same, is_among, Rows, value_in, index_in}
+use Rattle.spu_asm.specs.Kept.{Distinct, place_in, opened, edited, put, with_values}
 
 some_same : {A : Type 0} {x y : A} → Some x ≡ Some y → x ≡ y
 some_same {A} {x} e = ap (λ (r : Option A). unwrap_or r x) e

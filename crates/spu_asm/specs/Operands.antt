@@ -1,8 +1,8 @@
 -- The operands of instructions, by SPU ISA 1.2: the registers of an operation's layout in the order rt, ra, rb, rc, those
 -- that its row gives as zero left out, then its immediate operand; some operations have operands of their own.
-use Rattle.std.specs.Prelude.{ℕ, ◌+◌, ◌-◌, ◌*◌, ◌/◌, ◌%◌, ◌^◌, ◌==◌, ◌&&◌, Bool, true, false, nat_le, nat_lt, if◌then◌else◌, List, [], ◌∷◌, ◌++◌, length, take, drop, fold, Option, Some, None, option_map, Result, Ok, Err, codes, ℤ, pos, neg_ℤ, ◌-ℤ◌}
+use Rattle.std.specs.Prelude.{ℕ, ◌+◌, ◌-◌, ◌*◌, ◌/◌, ◌%◌, ◌^◌, ◌==◌, ◌&&◌, Bool, true, false, nat_le, nat_lt, if◌then◌else◌, List, [], ◌∷◌, ◌++◌, length, take, drop, fold, Option, Some, None, Result, Ok, Err, codes, ℤ, pos, negsuc, neg_ℤ, ◌-ℤ◌}
 use Rattle.std.specs.List.{list_any}
-use Rattle.std.specs.Borrow.{Bor}
+use Rattle.std.specs.Option.{option_map_or}
 use Rattle.spu_text.specs.Lexemes.{Lexeme, word, mark}
 use Rattle.spu_isa.specs.declared.operation.Op.{Op}
 use Rattle.spu_isa.specs.declared.operation.Op.TheVariants as op
@@ -10,10 +10,10 @@ use Rattle.spu_isa.specs.declared.operation.Kind.{Kind}
 use Rattle.spu_isa.specs.declared.operation.Kind.TheVariants.{HaltTest}
 use Rattle.spu_isa.specs.declared.instruction.Inst.{Inst}
 use Rattle.spu_isa.specs.declared.operation.Layout.{Layout}
-use Rattle.spu_isa.specs.declared.operation.Layout.TheVariants.{Rr, Rrr, Ri7, Ri10, Ri16}
+use Rattle.spu_isa.specs.declared.operation.Layout.TheVariants.{Rr, Rrr, Ri7, Ri10, Ri16, Ri18, HintA, HintB, StopForm}
 use Rattle.spu_isa.specs.declared.operation.Register.{Register}
 use Rattle.spu_isa.specs.declared.operation.Register.TheVariants.{Rt, Ra, Rb}
-use Rattle.spu_isa.specs.Table.{Row, row_of}
+use Rattle.spu_isa.specs.Table.{Row, row_of, opcode_of}
 use Rattle.spu_reloc.specs.declared.field.RelocKind.{RelocKind}
 use Rattle.spu_reloc.specs.declared.field.RelocKind.TheVariants.{Addr16Hi, Addr16Lo}
 use Rattle.spu_reloc.specs.Fields.{kind_on}
@@ -27,12 +27,7 @@ use Rattle.spu_asm.specs.declared.slots.Range.TheVariants as range
 use Rattle.spu_asm.specs.declared.slots.Slot.{Slot}
 use Rattle.spu_asm.specs.declared.slots.Slot.TheVariants as slot
 use Rattle.spu_asm.specs.declared.values.Offset.{Offset}
-use Rattle.spu_asm.specs.declared.operands.Given.{Given as CodeGiven}
-use Rattle.spu_asm.specs.declared.operands.Given.TheVariants as code
-use Rattle.spu_asm.specs.declared.operands.Target.{Target as CodeTarget}
-use Rattle.spu_asm.specs.declared.operands.Coded.{Coded as CodeCoded}
-use Rattle.spu_asm.specs.Names.{Name, register_of, channel_of, without_suffix}
-use Rattle.spu_asm.specs.Values.{Value, plain, here, symbol, value_of, natural}
+use Rattle.spu_asm.specs.Names.{Name, register_of, channel_of, without_suffix, Value, plain, here, symbol, value_of, natural}
 
 -- ---- which operands
 
@@ -161,14 +156,6 @@ pub data Given : Type 0 where
   place_symbol : Name → Given
   target : Target → Given
 
-abbrev pub or_bad : {A : Type 0} → (A → Given) → Option A → Given
-or_bad f (Some x) = f x
-or_bad f None = bad
-
-abbrev pub or_far : {A : Type 0} → (A → Given) → Option A → Given
-or_far f (Some x) = f x
-or_far f None = far
-
 -- what stands behind a symbol that makes a relocation of this kind
 abbrev pub suffix_of : RelocKind → List ℕ
 suffix_of Addr16Hi = codes "@h"
@@ -176,17 +163,17 @@ suffix_of Addr16Lo = codes "@l"
 suffix_of _ = []
 
 abbrev pub refers : Op → Name → Offset → Given
-refers o w n = or_bad (λ (s : Name). or_far (λ (a : ℤ). target (record { name = s; addend = a })) (addend_of n)) (without_suffix (suffix_of (kind_on o)) w)
+refers o w n = option_map_or (λ (s : Name). option_map_or (λ (a : ℤ). target (record { name = s; addend = a })) (addend_of n) far) (without_suffix (suffix_of (kind_on o)) w) bad
 
 abbrev pub in_range : Range → Offset → Given
-in_range b n = or_far immediate (signed_number b n)
+in_range b n = option_map_or immediate (signed_number b n) far
 
 -- a number from 0 to 127
 abbrev pub below_128 : Field → ℕ → Given
 below_128 f n = if nat_lt n 128 then register f n else far
 
 abbrev pub small_given : Field → Offset → Given
-small_given f n = or_far (below_128 f) (natural n)
+small_given f n = option_map_or (below_128 f) (natural n) far
 
 -- what a value gives: a number, `.` and a distance, or a symbol; the addend of a hint's place has no effect
 abbrev pub value_given : Op → Slot → Option Value → Given
@@ -198,19 +185,19 @@ value_given o (slot.Address b) (Some (plain n)) = in_range b n
 value_given o (slot.Address b) (Some (symbol w n)) = refers o w n
 value_given o slot.Relative (Some (here n)) = in_range range.WordDistance n
 value_given o slot.Relative (Some (symbol w n)) = refers o w n
-value_given o slot.Place (Some (plain n)) = or_far (λ (k : ℕ). nine_bits (k / 128) (k % 128)) (place_field n)
-value_given o slot.Place (Some (symbol w n)) = or_far (λ (a : ℤ). place_symbol w) (addend_of n)
+value_given o slot.Place (Some (plain n)) = option_map_or (λ (k : ℕ). nine_bits (k / 128) (k % 128)) (place_field n) far
+value_given o slot.Place (Some (symbol w n)) = option_map_or (λ (a : ℤ). place_symbol w) (addend_of n) far
 value_given o _ _ = bad
 
 -- `(register)`
 abbrev pub base_given : List Lexeme → Given
-base_given (mark m ∷ word w ∷ mark n ∷ []) = if m == 40 && n == 41 then or_bad (register field.Ra) (register_of w) else bad
+base_given (mark m ∷ word w ∷ mark n ∷ []) = if m == 40 && n == 41 then option_map_or (register field.Ra) (register_of w) bad else bad
 base_given _ = bad
 
 abbrev pub given : Op → Slot → List Lexeme → List Given
-given o (slot.Register f) (word w ∷ []) = or_bad (register f) (register_of w) ∷ []
-given o slot.RegisterNumber (word w ∷ []) = or_bad (register field.Rt) (register_of w) ∷ []
-given o slot.Channel (word w ∷ []) = or_bad (register field.Ra) (channel_of w) ∷ []
+given o (slot.Register f) (word w ∷ []) = option_map_or (register f) (register_of w) bad ∷ []
+given o slot.RegisterNumber (word w ∷ []) = option_map_or (register field.Rt) (register_of w) bad ∷ []
+given o slot.Channel (word w ∷ []) = option_map_or (register field.Ra) (channel_of w) bad ∷ []
 -- the last three lexemes are the register
 given o (slot.Memory b) ts = value_given o (slot.Memory b) (value_of (take (length ts - 3) ts)) ∷ base_given (drop (length ts - 3) ts) ∷ []
 given o s ts = value_given o s (value_of ts) ∷ []
@@ -255,23 +242,23 @@ blank o = record { inst = record { op = o; rt = 0; ra = 0; rb = 0; rc = 0; imm =
 abbrev pub coded : Op → List (List Lexeme) → Reading
 coded o os = fold read (Ok (blank o)) (all_given o (left (is_optional o) (slots_of o) (length os)) os)
 
--- ---- what the code gives
+-- ---- the word of an instruction: its opcode and its fields, by its layout (SPU ISA 1.2, "Instruction formats")
 
-abbrev pub target_in : CodeTarget → Target
-target_in t = record { name = t.name.now; addend = t.addend }
+-- a number as a field of so many bits, in two's complement
+abbrev pub to_field : ℕ → ℤ → ℕ
+to_field width (pos n) = n
+to_field width (negsuc n) = 2 ^ width - 1 - n
 
-abbrev pub given_in : CodeGiven → Given
-given_in code.Bad = bad
-given_in code.Far = far
-given_in (code.Register f n) = register f n
-given_in (code.Immediate n) = immediate n
-given_in (code.NineBits high low) = nine_bits high low
-given_in (code.PlaceSymbol w) = place_symbol w.now
-given_in (code.Target t) = target (target_in t)
+abbrev pub with_fields : Layout → ℕ → Inst → ℕ
+with_fields Rr o x = ((o * 2 ^ 7 + x.rb) * 2 ^ 7 + x.ra) * 2 ^ 7 + x.rt
+with_fields Rrr o x = (((o * 2 ^ 7 + x.rt) * 2 ^ 7 + x.rb) * 2 ^ 7 + x.ra) * 2 ^ 7 + x.rc
+with_fields Ri7 o x = ((o * 2 ^ 7 + to_field 7 x.imm) * 2 ^ 7 + x.ra) * 2 ^ 7 + x.rt
+with_fields Ri10 o x = ((o * 2 ^ 10 + to_field 10 x.imm) * 2 ^ 7 + x.ra) * 2 ^ 7 + x.rt
+with_fields Ri16 o x = (o * 2 ^ 16 + to_field 16 x.imm) * 2 ^ 7 + x.rt
+with_fields Ri18 o x = (o * 2 ^ 18 + to_field 18 x.imm) * 2 ^ 7 + x.rt
+with_fields HintA o x = ((o * 2 ^ 7 + x.rb) * 2 ^ 7 + x.ra) * 2 ^ 7 + x.rt
+with_fields HintB o x = ((o * 2 ^ 2 + x.rb) * 2 ^ 16 + to_field 16 x.imm) * 2 ^ 7 + x.rt
+with_fields StopForm o x = o * 2 ^ 21 + to_field 14 x.imm
 
-abbrev pub coded_in : CodeCoded → Coded
-coded_in c = record { inst = c.inst; place = option_map (λ (w : Bor (List ℕ)). w.now) c.place; target = option_map target_in c.target }
-
-abbrev pub reading_in : Result CodeCoded AsmKind → Reading
-reading_in (Ok c) = Ok (coded_in c)
-reading_in (Err k) = Err k
+unfoldable pub word_of : Inst → ℕ
+word_of x = with_fields (row_of x.op).layout (opcode_of x.op) x

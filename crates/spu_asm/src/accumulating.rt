@@ -1,13 +1,13 @@
 //! Sections and symbols as statement after statement is accepted.
 
-ghost use Rattle.std.specs.Prelude.{◌≡◌, ◌+◌, ◌<◌, ◌^◌, is_some, true, false, nat_lt, [], length, map, codes, OnOk, IfSome, MatchOption, None, Some};
+ghost use Rattle.std.specs.Prelude.{◌≡◌, ◌+◌, ◌<◌, ◌^◌, is_some, true, false, nat_lt, [], ◌∷◌, length, map, fold, codes, OnOk, IfOk, IfSome, MatchOption, None, Some};
+ghost use Rattle.std.specs.Option.{option_map_or};
+ghost use Rattle.std.specs.Result.{result_map_both};
 ghost use Rattle.spu_elf.specs.declared.objects.SecKind.TheVariants as kinds;
-ghost use Rattle.spu_asm.specs.Statements.{stmt_of, effect_of, result_of};
-ghost use Rattle.spu_asm.specs.Histories.{gap, common_spot, added_bytes, needs, target_of, home_after, is_among};
-ghost use Rattle.spu_asm.specs.Tables.{value_in};
-ghost use Rattle.spu_asm.specs.Summaries.{summary, kind_at, size_at, spot_at, kind_here, target_kind_at, target_place_at};
-ghost use Rattle.spu_asm.specs.Faults.{lesser, when_, number_of, is_code, is_zero, is_misplaced, is_in, clashes_at, clashes_by_at, is_against_rules_at, is_too_large_at, effect_fault_at, read_fault_at, fault_at};
-ghost use Rattle.spu_asm.specs.Cursors.{Fits, opened_headings, spot_of_code, with_labels, local_by, obeyed_in, obeyed, accepted_at, cursor_of, taken_at};
+ghost use Rattle.spu_asm.specs.Kept.{stmt_of, effect_of, Fits, opened, edited, grown_by, opened_headings, spot_of_code, told_all, IsMade, summary_of};
+ghost use Rattle.spu_asm.specs.Names.{Name};
+ghost use Rattle.spu_asm.specs.Histories.{History, Rows, enter, same, gap, common_spot, added_bytes, label_needs, needs, target_of, home_after, named_by, allowed_by, placed, told_of, is_among, value_in, summary, kind_at, size_at, spot_at, kind_here, target_kind_at, target_place_at};
+ghost use Rattle.spu_asm.specs.Assembly.{lesser, when_, number_of, is_code, is_zero, is_misplaced, clashes_at, clashes_by_at, is_against_rules_at, is_too_large_at, effect_fault_at, read_fault_at, fault_at};
 
 use crate::faults::AsmKind;
 use crate::sections::{SectionDraft, gap, padding};
@@ -119,7 +119,7 @@ fn is_among(names: &[&[u8]], name: &[u8]) -> bool
 
 /// How many bytes an action adds to a section of this kind, in which the next byte stands there; None where that is more
 /// than a section may have.
-#[tactic(auto, unfolding(crate::specs::Statements::effect_of))]
+#[tactic(auto, unfolding(crate::specs::Kept::effect_of))]
 fn added_len(action: &Action, kind: SecKind, at: u32) -> Option<u128>
     ensures { MatchOption result (262144 < length (added_bytes kind at (effect_of action.now))) (λ n. n ≡ length (added_bytes kind at (effect_of action.now))) }
 {
@@ -157,7 +157,7 @@ fn passes(at: u32, more: Option<u128>) -> bool
 impl<'a> Assembler<'a> {
     /// No statement yet.
     pub fn new(alloc: Global) -> Assembler<'a>
-        ensures { cursor_of result ≡ summary [] }
+        ensures { summary_of result ≡ summary [] }
     {
         Assembler {
             alloc,
@@ -170,7 +170,7 @@ impl<'a> Assembler<'a> {
 
     /// The kind of the current section.
     fn kind(&self) -> SecKind
-        ensures { result ≡ kind_here (cursor_of self.now) }
+        ensures { result ≡ kind_here (summary_of self.now) }
     {
         match self.sections.kind(self.current) {
             Some(kind) => kind,
@@ -180,7 +180,7 @@ impl<'a> Assembler<'a> {
 
     /// The kind of the section of common symbols.
     fn common_kind(&self) -> SecKind
-        ensures { result ≡ kind_at (cursor_of self.now).sections (codes ".bss") kinds.Zero }
+        ensures { result ≡ kind_at (summary_of self.now).sections (codes ".bss") kinds.Zero }
     {
         match self.sections.kind(b".bss") {
             Some(kind) => kind,
@@ -190,13 +190,13 @@ impl<'a> Assembler<'a> {
 
     /// The place of the next byte.
     fn here(&self) -> u32
-        ensures { result ≡ size_at (cursor_of self.now).sections self.now.current.now }
+        ensures { result ≡ size_at (summary_of self.now).sections self.now.current.now }
     {
         self.sections.size(self.current)
     }
 
     /// The section that an action adds to.
-    #[tactic(auto, unfolding(crate::specs::Statements::effect_of))]
+    #[tactic(auto, unfolding(crate::specs::Kept::effect_of))]
     fn target(&self, action: &Action) -> &'a [u8]
         ensures { result.now ≡ target_of (effect_of action.now) self.now.current.now }
     {
@@ -215,9 +215,9 @@ impl<'a> Assembler<'a> {
     }
 
     /// Its kind.
-    #[tactic(auto, unfolding(crate::specs::Statements::effect_of))]
+    #[tactic(auto, unfolding(crate::specs::Kept::effect_of))]
     fn target_kind(&self, action: &Action) -> SecKind
-        ensures { result ≡ target_kind_at (cursor_of self.now) (effect_of action.now) }
+        ensures { result ≡ target_kind_at (summary_of self.now) (effect_of action.now) }
     {
         match action {
             Action::Common { .. } => self.common_kind(),
@@ -235,21 +235,21 @@ impl<'a> Assembler<'a> {
 
     /// The place of its next byte.
     fn target_place(&self, action: &Action) -> u32
-        ensures { result ≡ target_place_at (cursor_of self.now) (effect_of action.now) }
+        ensures { result ≡ target_place_at (summary_of self.now) (effect_of action.now) }
     {
         self.sections.size(self.target(action))
     }
 
     /// Whether a name is a label.
     fn is_label(&self, name: &[u8]) -> bool
-        ensures { result ≡ is_some (spot_at (cursor_of self.now).symbols name.now) }
+        ensures { result ≡ is_some (spot_at (summary_of self.now).symbols name.now) }
     {
         self.symbols.spot(name).is_some()
     }
 
     /// Whether a label is there already, or stands twice.
     fn clashes(&self, labels: &[&[u8]]) -> bool
-        ensures { result ≡ clashes_at (cursor_of self.now).symbols (map (λ w. w.now) labels.now) }
+        ensures { result ≡ clashes_at (summary_of self.now).symbols (map (λ w. w.now) labels.now) }
     {
         let mut rest = labels;
         while let [label, more @ ..] = rest {
@@ -262,9 +262,9 @@ impl<'a> Assembler<'a> {
     }
 
     /// Whether the symbol of `.comm` is a label.
-    #[tactic(auto, unfolding(crate::specs::Statements::effect_of))]
+    #[tactic(auto, unfolding(crate::specs::Kept::effect_of))]
     fn is_common_label(&self, labels: &[&[u8]], action: &Action) -> bool
-        ensures { result ≡ clashes_by_at (cursor_of self.now).symbols (map (λ w. w.now) labels.now) (effect_of action.now) }
+        ensures { result ≡ clashes_by_at (summary_of self.now).symbols (map (λ w. w.now) labels.now) (effect_of action.now) }
     {
         match action {
             Action::Common { name, .. } => self.is_label(*name) || is_among(labels, *name),
@@ -282,7 +282,7 @@ impl<'a> Assembler<'a> {
 
     /// Whether a name is a label of the current section.
     fn is_label_here(&self, name: &[u8]) -> bool
-        ensures { result ≡ is_in self.now.current.now (spot_at (cursor_of self.now).symbols name.now) }
+        ensures { result ≡ option_map_or (λ s. same s.section self.now.current.now) (spot_at (summary_of self.now).symbols name.now) false }
     {
         match self.symbols.spot(name) {
             Some(spot) => spot.section == self.current,
@@ -291,9 +291,9 @@ impl<'a> Assembler<'a> {
     }
 
     /// Whether an action is against the rules of its directive or its section, in a statement with these labels.
-    #[tactic(auto, unfolding(crate::specs::Statements::effect_of))]
+    #[tactic(auto, unfolding(crate::specs::Kept::effect_of))]
     fn is_against_rules(&self, labels: &[&[u8]], action: &Action) -> bool
-        ensures { result ≡ is_against_rules_at (cursor_of self.now) (map (λ w. w.now) labels.now) (effect_of action.now) }
+        ensures { result ≡ is_against_rules_at (summary_of self.now) (map (λ w. w.now) labels.now) (effect_of action.now) }
     {
         match action {
             Action::Instruction(_) => !is_code(self.kind()),
@@ -314,7 +314,7 @@ impl<'a> Assembler<'a> {
 
     /// Whether an action makes its section too large.
     fn is_too_large(&self, action: &Action) -> bool
-        ensures { result ≡ is_too_large_at (cursor_of self.now) (effect_of action.now) }
+        ensures { result ≡ is_too_large_at (summary_of self.now) (effect_of action.now) }
     {
         let at = self.target_place(action);
         passes(at, added_len(action, self.target_kind(action), at))
@@ -322,7 +322,7 @@ impl<'a> Assembler<'a> {
 
     /// The least fault of an action here, behind these labels.
     fn action_fault(&self, labels: &[&[u8]], action: &Action) -> Option<AsmKind>
-        ensures { result ≡ effect_fault_at (cursor_of self.now) (map (λ w. w.now) labels.now) (effect_of action.now) }
+        ensures { result ≡ effect_fault_at (summary_of self.now) (map (λ w. w.now) labels.now) (effect_of action.now) }
     {
         let label = fault_if(
             self.is_common_label(labels, action),
@@ -335,7 +335,7 @@ impl<'a> Assembler<'a> {
 
     /// The least fault of what stands behind the labels.
     fn read_fault(&self, labels: &[&[u8]], action: &Result<Action, AsmKind>) -> Option<AsmKind>
-        ensures { result ≡ read_fault_at (cursor_of self.now) (map (λ w. w.now) labels.now) (result_of action.now) }
+        ensures { result ≡ read_fault_at (summary_of self.now) (map (λ w. w.now) labels.now) (result_map_both effect_of (λ k. k) action.now) }
     {
         match action {
             Ok(action) => self.action_fault(labels, action),
@@ -345,7 +345,7 @@ impl<'a> Assembler<'a> {
 
     /// The least fault of a statement here; None where it has none.
     pub fn judge(&self, s: &Statement) -> Option<AsmKind>
-        ensures { result ≡ fault_at (cursor_of self.now) (stmt_of s.now) }
+        ensures { result ≡ fault_at (summary_of self.now) (stmt_of s.now) }
     {
         let labels = s.labels.as_slice();
         let clash = fault_if(self.clashes(labels), AsmKind::DuplicateLabel);
@@ -353,9 +353,9 @@ impl<'a> Assembler<'a> {
     }
 
     /// Makes the section that an action needs.
-    #[tactic(auto, unfolding(crate::specs::Statements::effect_of))]
+    #[tactic(auto, unfolding(crate::specs::Kept::effect_of))]
     fn make_needed(&mut self, action: &Action<'a>) -> Result<(), OutOfMemory>
-        ensures { OnOk result (cursor_of self.new ≡ record (cursor_of self.old) { sections = opened_headings (cursor_of self.old).sections (needs self.old.current.now (effect_of action.now)) }) }
+        ensures { OnOk result (summary_of self.new ≡ record (summary_of self.old) { sections = opened_headings (summary_of self.old).sections (needs self.old.current.now (effect_of action.now)) }) }
     {
         match action {
             Action::Instruction(_) | Action::Data(_) | Action::Space(_) | Action::Align(_) => self
@@ -374,7 +374,7 @@ impl<'a> Assembler<'a> {
 
     /// Labels stand here.
     fn define(&mut self, labels: &[&'a [u8]]) -> Result<(), OutOfMemory>
-        ensures { OnOk result (cursor_of self.new ≡ with_labels (map (λ w. w.now) labels.now) (cursor_of self.old)) }
+        ensures { OnOk result (summary_of self.new ≡ record (summary_of self.old) { sections = opened_headings (summary_of self.old).sections (label_needs self.old.current.now (map (λ w. w.now) labels.now)); symbols = told_all (summary_of self.old).symbols (map (λ w. w.now) labels.now) (placed (record { section = self.old.current.now; offset = size_at (summary_of self.old).sections self.old.current.now })) }) }
     {
         if labels.is_empty() {
             return Ok(());
@@ -388,10 +388,10 @@ impl<'a> Assembler<'a> {
     }
 
     /// Where the symbol of `.comm` stands, behind the padding.
-    #[tactic(auto, unfolding(crate::specs::Statements::effect_of))]
+    #[tactic(auto, unfolding(crate::specs::Kept::effect_of))]
     fn common_spot(&self, action: &Action) -> Spot<'a>
-        requires { (common_spot (effect_of action.now) (size_at (cursor_of self.now).sections (codes ".bss"))).offset < 2 ^ 32 }
-        ensures { spot_of_code result ≡ common_spot (effect_of action.now) (size_at (cursor_of self.now).sections (codes ".bss")) }
+        requires { (common_spot (effect_of action.now) (size_at (summary_of self.now).sections (codes ".bss"))).offset < 2 ^ 32 }
+        ensures { spot_of_code result ≡ common_spot (effect_of action.now) (size_at (summary_of self.now).sections (codes ".bss")) }
     {
         let offset = match action {
             Action::Common { align, .. } => {
@@ -415,7 +415,7 @@ impl<'a> Assembler<'a> {
     }
 
     /// The section that goes on behind an action.
-    #[tactic(auto, unfolding(crate::specs::Statements::effect_of))]
+    #[tactic(auto, unfolding(crate::specs::Kept::effect_of))]
     fn current_after(&self, action: &Action<'a>) -> &'a [u8]
         ensures { result.now ≡ home_after (effect_of action.now) self.now.current.now }
     {
@@ -434,9 +434,9 @@ impl<'a> Assembler<'a> {
     }
 
     /// Notes the name of `.local`.
-    #[tactic(auto, unfolding(crate::specs::Statements::effect_of))]
+    #[tactic(auto, unfolding(crate::specs::Kept::effect_of))]
     fn note_local(&mut self, action: &Action<'a>) -> Result<(), OutOfMemory>
-        ensures { OnOk result (cursor_of self.new ≡ record (cursor_of self.old) { locals = local_by (effect_of action.now) (cursor_of self.old).locals }) }
+        ensures { OnOk result (summary_of self.new ≡ record (summary_of self.old) { locals = fold (λ (t : Rows (Unit {0})) (n : Name). opened t n tt) (summary_of self.old).locals (allowed_by (effect_of action.now)) }) }
     {
         match action {
             Action::Local(name) => self.locals.open(*name, ()),
@@ -454,8 +454,11 @@ impl<'a> Assembler<'a> {
 
     /// What an action does, where the section that it needs is there.
     fn obey_in(&mut self, action: &Action<'a>) -> Result<(), OutOfMemory>
-        requires { IfSome (value_in (cursor_of self.old).sections (target_of (effect_of action.now) self.old.current.now)) (Fits (effect_of action.now)) }
-        ensures { OnOk result (cursor_of self.new ≡ obeyed_in (effect_of action.now) (cursor_of self.old).sections (cursor_of self.old)) }
+        requires { IfSome (value_in (summary_of self.old).sections (target_of (effect_of action.now) self.old.current.now)) (Fits (effect_of action.now)) }
+        ensures current { OnOk result ((summary_of self.new).current ≡ home_after (effect_of action.now) self.old.current.now) }
+        ensures sections { OnOk result ((summary_of self.new).sections ≡ edited (summary_of self.old).sections (target_of (effect_of action.now) self.old.current.now) (grown_by (effect_of action.now))) }
+        ensures symbols { OnOk result ((summary_of self.new).symbols ≡ told_all (summary_of self.old).symbols (named_by (effect_of action.now)) (told_of (effect_of action.now) (size_at (summary_of self.old).sections self.old.current.now) (common_spot (effect_of action.now) (size_at (summary_of self.old).sections (codes ".bss"))))) }
+        ensures locals { OnOk result ((summary_of self.new).locals ≡ fold (λ (t : Rows (Unit {0})) (n : Name). opened t n tt) (summary_of self.old).locals (allowed_by (effect_of action.now))) }
     {
         let at = self.here();
         let spot = self.common_spot(action);
@@ -467,28 +470,21 @@ impl<'a> Assembler<'a> {
         Ok(())
     }
 
-    /// What an action does.
-    fn obey(&mut self, action: &Action<'a>) -> Result<(), OutOfMemory>
-        requires { IfSome (value_in (opened_headings (cursor_of self.old).sections (needs self.old.current.now (effect_of action.now))) (target_of (effect_of action.now) self.old.current.now)) (Fits (effect_of action.now)) }
-        ensures { OnOk result (cursor_of self.new ≡ obeyed (effect_of action.now) (cursor_of self.old)) }
-    {
-        self.make_needed(action)?;
-        self.obey_in(action)
-    }
-
     /// Accepts an action without a fault, behind these labels.
     fn accept_action(&mut self, labels: &[&'a [u8]], action: &Action<'a>) -> Result<(), OutOfMemory>
-        requires { is_too_large_at (cursor_of self.old) (effect_of action.now) ≡ false }
-        ensures { OnOk result (cursor_of self.new ≡ accepted_at (cursor_of self.old) (map (λ w. w.now) labels.now) (effect_of action.now)) }
+        requires { is_too_large_at (summary_of self.old) (effect_of action.now) ≡ false }
+        ensures { (h : History) → IsMade h → summary_of self.old ≡ summary h → OnOk result (summary_of self.new ≡ summary (enter h (map (λ w. w.now) labels.now) (effect_of action.now) ∷ h)) }
     {
         self.define(labels)?;
-        self.obey(action)
+        self.make_needed(action)?;
+        self.obey_in(action)?;
+        Ok(())
     }
 
     /// Accepts a statement without a fault.
     pub fn accept(&mut self, s: &Statement<'a>) -> Result<(), OutOfMemory>
-        requires { fault_at (cursor_of self.old) (stmt_of s.now) ≡ None }
-        ensures { OnOk result (cursor_of self.new ≡ taken_at (cursor_of self.old) (stmt_of s.now).labels (stmt_of s.now).effect) }
+        requires { fault_at (summary_of self.old) (stmt_of s.now) ≡ None }
+        ensures { (h : History) → IsMade h → summary_of self.old ≡ summary h → OnOk result (IfOk (stmt_of s.now).effect (λ e. summary_of self.new ≡ summary (enter h (stmt_of s.now).labels e ∷ h))) }
     {
         match &s.action {
             Ok(action) => self.accept_action(s.labels.as_slice(), action),

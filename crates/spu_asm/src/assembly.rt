@@ -6,12 +6,10 @@ ghost use Rattle.spu_elf.specs.declared.objects.Object.{Object};
 ghost use Rattle.spu_elf.specs.WellFormed.{IsWellFormed};
 ghost use Rattle.spu_text.specs.declared.lexemes.TextFault.TheVariants as texts;
 ghost use Rattle.spu_text.specs.Lexemes.{lexemes_of};
-ghost use Rattle.spu_asm.specs.Parts.{lexemes};
-ghost use Rattle.spu_asm.specs.Values.{parted};
-ghost use Rattle.spu_asm.specs.StatementReading.{statement_of};
-ghost use Rattle.spu_asm.specs.Assembly.{Answers, Assembles, IsFaultOf, run_of, noted, statements_after, line_after};
-ghost use Rattle.spu_asm.specs.Faults.{Fault, Run, after};
-ghost use Rattle.spu_asm.specs.Progressing.{InRun, Finishes};
+ghost use Rattle.spu_asm.specs.Kept.{lexemes, InRun, Finishes};
+ghost use Rattle.spu_asm.specs.Names.{parted};
+ghost use Rattle.spu_asm.specs.Statements.{statement_of};
+ghost use Rattle.spu_asm.specs.Assembly.{Answers, Assembles, IsFaultOf, run_of, noted, statements_after, line_after, Fault, Run, after};
 
 use crate::faults::{AsmFault, AsmKind};
 use crate::parts::first_part;
@@ -123,7 +121,7 @@ fn outcome(alloc: Global, text: &[u8]) -> Result<Outcome, OutOfMemory>
 
 /// The object of a text, or the fault of its first faulty line: on that line the least number counts. A text has at most
 /// 4,194,304 bytes (a longer one is faulty at line 0), and its object has a file (else the last line is faulty).
-#[tactic(auto, using(crate::proofs::AssemblySteps::made_well, crate::proofs::AssemblySteps::too_long, crate::proofs::AssemblySteps::assembled, crate::proofs::AssemblySteps::no_file))]
+#[tactic(auto, using(crate::proofs::AssemblySteps::made_well, crate::proofs::AssemblySteps::too_long, crate::proofs::AssemblySteps::first_faulty, crate::proofs::AssemblySteps::assembled, crate::proofs::AssemblySteps::no_file))]
 pub fn assemble(alloc: Global, text: &[u8]) -> Result<Object, AsmFault>
     ensures answers { Answers result text.now }
     ensures well_formed { IfOk result IsWellFormed }

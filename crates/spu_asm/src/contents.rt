@@ -3,11 +3,10 @@
 ghost use Rattle.std.specs.Prelude.{◌≡◌, ◌<◌, ◌≤◌, ◌+◌, ◌∷◌, ◌++◌, length, map, Ok, Err, OnOk, fold, Some, IfSome, option_map};
 ghost use Rattle.std.specs.List.{list_any};
 ghost use Rattle.std.specs.Int.{bytes_high_first};
-ghost use Rattle.spu_asm.specs.Parts.{lexemes, parts_left};
-ghost use Rattle.spu_asm.specs.Values;
-ghost use Rattle.spu_asm.specs.Values.{value_of};
-ghost use Rattle.spu_asm.specs.Statements.{content_of};
-ghost use Rattle.spu_asm.specs.Contents.{fits, complement, address_value, one_value, is_far, joined, value_in, values_of, Adds, Reads};
+ghost use Rattle.spu_asm.specs.Kept.{lexemes, parts_left, value_of_code, content_of, Adds, Reads};
+ghost use Rattle.spu_asm.specs.Names;
+ghost use Rattle.spu_asm.specs.Names.{value_of};
+ghost use Rattle.spu_asm.specs.Statements.{fits, complement, address_value, one_value, is_far, joined, value_in, values_of};
 
 use crate::faults::AsmKind;
 use crate::operands::addend_of;
@@ -78,7 +77,7 @@ fn push_low_bytes(bytes: &mut Bytes, width: usize, number: u128) -> Result<(), O
 fn push_number(content: &mut Content, width: usize, number: Offset) -> Result<(), Refusal>
     requires some { 0 < width }
     requires most { width ≤ 16 }
-    ensures { Adds result (content_of content.old) (content_of content.new) (one_value width (Some (Values.plain number))) }
+    ensures { Adds result (content_of content.old) (content_of content.new) (one_value width (Some (Names.plain number))) }
 {
     if !fits(width, number) {
         return Err(Refusal::Fault(AsmKind::Range));
@@ -97,7 +96,7 @@ fn push_value<'a>(
 ) -> Result<(), Refusal>
     requires some { 0 < width }
     requires most { width ≤ 16 }
-    ensures { Adds result (content_of content.old) (content_of content.new) (one_value width (option_map Values.value_in value.entry)) }
+    ensures { Adds result (content_of content.old) (content_of content.new) (one_value width (option_map value_of_code value.entry)) }
 {
     match value {
         Some(Value::Number(number)) => push_number(content, width, number),
@@ -116,7 +115,7 @@ fn push_value<'a>(
 fn is_far(width: usize, value: Option<Value>) -> bool
     requires some { 0 < width }
     requires most { width ≤ 16 }
-    ensures { result ≡ is_far (one_value width (option_map Values.value_in value.entry)) }
+    ensures { result ≡ is_far (one_value width (option_map value_of_code value.entry)) }
 {
     match value {
         Some(Value::Number(number)) => !fits(width, number),

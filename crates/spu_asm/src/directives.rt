@@ -2,14 +2,12 @@
 
 ghost use Rattle.std.specs.Prelude.{◌≡◌, ℕ, List, ◌<◌, ◌≤◌, ◌==◌, ◌∷◌, [], true, IfSome, IfNone, Ok, option_map};
 ghost use Rattle.std.specs.List.{list_any};
-ghost use Rattle.spu_asm.specs.Values.{natural_of, value_of, parted};
-ghost use Rattle.spu_asm.specs.Parts.{lexemes};
-ghost use Rattle.spu_asm.specs.Directives.{of_some, only_if, alone, one_symbol, one_number, one_text, of_symbol, kind_by, size_by, align_by, is_step, common_by, kind_by_name, kind_by_flags, is_nobits, flagged, section_of, name_of, directive_of, meaning_of};
+ghost use Rattle.std.specs.Option.{option_map_or};
+ghost use Rattle.spu_asm.specs.Names.{natural_of, value_of, parted};
+ghost use Rattle.spu_asm.specs.Kept.{lexemes, Gives};
+ghost use Rattle.spu_asm.specs.Statements.{bad, only_if, alone, one_symbol, one_number, one_text, of_symbol, kind_by, size_by, align_by, is_step, common_by, kind_by_name, kind_by_flags, is_nobits, flagged, section_of, name_of, directive_of, meaning_of, Effect, section, space, exports, may_be_common, common, values_of, text_of};
 ghost use Rattle.spu_asm.specs.declared.directives.Directive.{Directive};
 ghost use Rattle.spu_text.specs.Lexemes.{word};
-ghost use Rattle.spu_asm.specs.Statements.{Effect, section, space, exports, may_be_common, common};
-ghost use Rattle.spu_asm.specs.Contents.{Gives, values_of};
-ghost use Rattle.spu_asm.specs.Quotes.{text_of};
 
 use crate::contents::values;
 use crate::names::is_symbol;
@@ -101,7 +99,7 @@ pub fn directive_of(word: &[u8]) -> Option<Directive>
 }
 
 /// A section, where no operand stands.
-#[tactic(auto, unfolding(crate::specs::Statements::effect_of))]
+#[tactic(auto, unfolding(crate::specs::Kept::effect_of))]
 fn known_section<'a>(name: &'a [u8], kind: SecKind, pieces: &[Piece]) -> Result<Action<'a>, Refusal>
     ensures { Gives result (alone (section name.now kind) (lexemes pieces.now)) }
 {
@@ -113,7 +111,7 @@ fn known_section<'a>(name: &'a [u8], kind: SecKind, pieces: &[Piece]) -> Result<
 }
 
 /// The kind of a section without flags.
-#[tactic(auto, unfolding(crate::specs::Directives::kind_by_name))]
+#[tactic(auto, unfolding(crate::specs::Statements::kind_by_name))]
 fn kind_by_name(name: &[u8]) -> SecKind
     ensures { result ≡ kind_by_name name.now }
 {
@@ -164,7 +162,7 @@ fn is_nobits(pieces: &[Piece]) -> Option<bool>
 }
 
 /// A section with flags.
-#[tactic(auto, unfolding(crate::specs::Statements::effect_of))]
+#[tactic(auto, unfolding(crate::specs::Kept::effect_of))]
 fn flagged<'a>(
     alloc: Global,
     name: &'a [u8],
@@ -185,7 +183,7 @@ fn flagged<'a>(
 }
 
 /// A section with or without flags.
-#[tactic(auto, unfolding(crate::specs::Statements::effect_of))]
+#[tactic(auto, unfolding(crate::specs::Kept::effect_of))]
 fn section<'a>(alloc: Global, pieces: &[Piece<'a>]) -> Result<Action<'a>, Refusal>
     ensures { Gives result (section_of (lexemes pieces.now)) }
 {
@@ -206,7 +204,7 @@ fn section<'a>(alloc: Global, pieces: &[Piece<'a>]) -> Result<Action<'a>, Refusa
 
 /// The one operand, which is a symbol.
 fn one_symbol<'a>(pieces: &[Piece<'a>]) -> Option<&'a [u8]>
-    ensures { (f : List ℕ → Effect) → one_symbol f (lexemes pieces.now) ≡ of_some (λ s. Ok (f s)) (option_map (λ name. name.now) result) }
+    ensures { (f : List ℕ → Effect) → one_symbol f (lexemes pieces.now) ≡ option_map_or (λ s. Ok (f s)) (option_map (λ name. name.now) result) bad }
 {
     match pieces {
         [Piece::Word(name)] if is_symbol(name) => Some(*name),
@@ -215,7 +213,7 @@ fn one_symbol<'a>(pieces: &[Piece<'a>]) -> Option<&'a [u8]>
 }
 
 /// The kind of a symbol, by the word behind its name.
-#[tactic(auto, unfolding(crate::specs::Statements::effect_of))]
+#[tactic(auto, unfolding(crate::specs::Kept::effect_of))]
 fn kind_named<'a>(name: &'a [u8], kind: &'a [u8]) -> Result<Action<'a>, Refusal>
     ensures { Gives result (kind_by name.now (word kind.now ∷ [])) }
 {
@@ -267,7 +265,7 @@ fn natural(pieces: &[Piece]) -> Option<u128>
 }
 
 /// The size of a symbol, as it is written behind its name.
-#[tactic(auto, unfolding(crate::specs::Statements::effect_of))]
+#[tactic(auto, unfolding(crate::specs::Kept::effect_of))]
 fn size_by<'a>(name: &'a [u8], pieces: &[Piece<'a>]) -> Result<Action<'a>, Refusal>
     ensures { Gives result (size_by name.now (lexemes pieces.now)) }
 {
@@ -300,7 +298,7 @@ fn size_of<'a>(pieces: &[Piece<'a>]) -> Result<Action<'a>, Refusal>
 }
 
 /// Padding to a power of two.
-#[tactic(auto, unfolding(crate::specs::Statements::effect_of))]
+#[tactic(auto, unfolding(crate::specs::Kept::effect_of))]
 fn align_of<'a>(pieces: &[Piece<'a>]) -> Result<Action<'a>, Refusal>
     ensures { Gives result (one_number align_by (lexemes pieces.now)) }
 {
@@ -311,7 +309,7 @@ fn align_of<'a>(pieces: &[Piece<'a>]) -> Result<Action<'a>, Refusal>
 }
 
 /// Zero bytes.
-#[tactic(auto, unfolding(crate::specs::Statements::effect_of))]
+#[tactic(auto, unfolding(crate::specs::Kept::effect_of))]
 fn space_of<'a>(pieces: &[Piece<'a>]) -> Result<Action<'a>, Refusal>
     ensures { Gives result (one_number (λ n. Ok (space n)) (lexemes pieces.now)) }
 {
@@ -322,7 +320,7 @@ fn space_of<'a>(pieces: &[Piece<'a>]) -> Result<Action<'a>, Refusal>
 }
 
 /// Whether a number is a power of two up to 128.
-#[tactic(auto, unfolding(crate::specs::Directives::is_step))]
+#[tactic(auto, unfolding(crate::specs::Statements::is_step))]
 fn is_step(n: u128) -> bool
     ensures value { result ≡ is_step n }
     ensures small { result ≡ true → n ≤ 128 }
@@ -331,13 +329,13 @@ fn is_step(n: u128) -> bool
 }
 
 /// Zero bytes in `.bss`, so many at a multiple of a step.
-#[tactic(auto, unfolding(crate::specs::Statements::effect_of))]
+#[tactic(auto, unfolding(crate::specs::Kept::effect_of))]
 fn common_with<'a>(
     name: &'a [u8],
     size: Option<u128>,
     step: Option<u128>,
 ) -> Result<Action<'a>, Refusal>
-    ensures { Gives result (of_some (λ n. of_some (λ a. only_if (is_step a) (common name.now n a)) step) size) }
+    ensures { Gives result (option_map_or (λ n. option_map_or (λ a. only_if (is_step a) (common name.now n a)) step bad) size bad) }
 {
     match (size, step) {
         (Some(size), Some(step)) => if is_step(step) {
@@ -381,7 +379,7 @@ fn common_of<'a>(pieces: &[Piece<'a>]) -> Result<Action<'a>, Refusal>
 }
 
 /// The one operand, which is quoted text, with these bytes behind it.
-#[tactic(auto, unfolding(crate::specs::Statements::effect_of))]
+#[tactic(auto, unfolding(crate::specs::Kept::effect_of))]
 fn one_text<'a>(alloc: Global, pieces: &[Piece<'a>], end: &[u8]) -> Result<Action<'a>, Refusal>
     ensures { Gives result (one_text end.now (lexemes pieces.now)) }
 {
@@ -399,7 +397,7 @@ fn one_text<'a>(alloc: Global, pieces: &[Piece<'a>], end: &[u8]) -> Result<Actio
 }
 
 /// Values of so many bytes.
-#[tactic(auto, unfolding(crate::specs::Statements::effect_of))]
+#[tactic(auto, unfolding(crate::specs::Kept::effect_of))]
 fn data<'a>(alloc: Global, width: usize, pieces: &[Piece<'a>]) -> Result<Action<'a>, Refusal>
     requires some { 0 < width }
     requires most { width ≤ 16 }
@@ -412,7 +410,7 @@ fn data<'a>(alloc: Global, width: usize, pieces: &[Piece<'a>]) -> Result<Action<
 }
 
 /// A global symbol.
-#[tactic(auto, unfolding(crate::specs::Statements::effect_of))]
+#[tactic(auto, unfolding(crate::specs::Kept::effect_of))]
 fn global<'a>(pieces: &[Piece<'a>]) -> Result<Action<'a>, Refusal>
     ensures { Gives result (one_symbol exports (lexemes pieces.now)) }
 {
@@ -423,7 +421,7 @@ fn global<'a>(pieces: &[Piece<'a>]) -> Result<Action<'a>, Refusal>
 }
 
 /// A symbol that may be common.
-#[tactic(auto, unfolding(crate::specs::Statements::effect_of))]
+#[tactic(auto, unfolding(crate::specs::Kept::effect_of))]
 fn local<'a>(pieces: &[Piece<'a>]) -> Result<Action<'a>, Refusal>
     ensures { Gives result (one_symbol may_be_common (lexemes pieces.now)) }
 {
@@ -434,7 +432,7 @@ fn local<'a>(pieces: &[Piece<'a>]) -> Result<Action<'a>, Refusal>
 }
 
 /// What a directive does with the pieces behind it.
-#[tactic(auto, unfolding(crate::specs::Statements::effect_of, crate::specs::Directives::meaning_of))]
+#[tactic(auto, unfolding(crate::specs::Kept::effect_of, crate::specs::Statements::meaning_of))]
 pub fn action_of<'a>(
     alloc: Global,
     directive: Directive,

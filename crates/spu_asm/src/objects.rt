@@ -2,9 +2,9 @@
 
 ghost use Rattle.std.specs.Prelude.{◌≡◌, ◌<◌, ◌^◌, ◌++◌, ℕ, List, true, false, length, map, IfOk, OnOk, MatchOption};
 ghost use Rattle.std.specs.List.{list_all};
-ghost use Rattle.spu_asm.specs.Tables.{rows, index_in, Distinct};
-ghost use Rattle.spu_asm.specs.Objects.{ordered_at, section_at, symbol_at, place_at, reloc_at, relocs_at, is_chosen, chosen, object_at};
-ghost use Rattle.spu_asm.specs.Cursors.{relocation_of_pending, draft_of, drafts, sighting_of, sightings, cursor_of, is_near, has_near, is_small, is_spellable, numbered};
+ghost use Rattle.spu_asm.specs.Kept.{rows, Distinct, relocation_of_pending, draft_of, drafts, sighting_of, sightings, summary_of, is_near, has_near, is_small, is_spellable, numbered};
+ghost use Rattle.spu_asm.specs.Histories.{index_in};
+ghost use Rattle.spu_asm.specs.Assembly.{ordered_at, section_at, symbol_at, place_at, reloc_at, relocs_at, is_chosen, chosen, object_at};
 
 use crate::accumulating::Assembler;
 use crate::sections::{Pending, SectionDraft};
@@ -142,8 +142,8 @@ fn is_chosen(global: bool, symbol: &SymbolDraft) -> bool
 impl<'a> Assembler<'a> {
     /// Whether the numbers of the object fit 32 bits, and there are no more sections and symbols than a file has.
     fn is_spellable(&self) -> bool
-        ensures value { result ≡ is_spellable (cursor_of self.now) }
-        ensures distinct { Distinct (map (λ e. e.0) (cursor_of self.now).symbols) }
+        ensures value { result ≡ is_spellable (summary_of self.now) }
+        ensures distinct { Distinct (map (λ e. e.0) (summary_of self.now).symbols) }
     {
         let symbols = self.symbols.len();
         self.sections.len() <= 4096
@@ -154,8 +154,8 @@ impl<'a> Assembler<'a> {
 
     /// Where a symbol is.
     fn symbol_place(&self, symbol: &SymbolDraft) -> SymPlace
-        requires { length (cursor_of self.now).sections < 2 ^ 32 }
-        ensures { result ≡ place_at (cursor_of self.now).sections (sighting_of symbol.now).spot }
+        requires { length (summary_of self.now).sections < 2 ^ 32 }
+        ensures { result ≡ place_at (summary_of self.now).sections (sighting_of symbol.now).spot }
     {
         match symbol.spot {
             None => SymPlace::Undefined,
@@ -170,9 +170,9 @@ impl<'a> Assembler<'a> {
         name: &[u8],
         symbol: &SymbolDraft,
     ) -> Result<Symbol, OutOfMemory>
-        requires few { length (cursor_of self.now).sections < 2 ^ 32 }
+        requires few { length (summary_of self.now).sections < 2 ^ 32 }
         requires small { symbol.now.size < 2 ^ 32 }
-        ensures { IfOk result (λ s. s ≡ symbol_at (cursor_of self.now).sections (name.now, sighting_of symbol.now)) }
+        ensures { IfOk result (λ s. s ≡ symbol_at (summary_of self.now).sections (name.now, sighting_of symbol.now)) }
     {
         let value = match symbol.spot {
             None => 0,
@@ -196,10 +196,10 @@ impl<'a> Assembler<'a> {
         all: &mut Seq<Symbol>,
         order: &mut Table<'a, ()>,
     ) -> Result<(), OutOfMemory>
-        requires few { length (cursor_of self.now).sections < 2 ^ 32 }
-        requires small { list_all is_small (cursor_of self.now).symbols ≡ true }
-        ensures symbols { OnOk result (all.new ≡ all.old ++ map (symbol_at (cursor_of self.now).sections) (chosen global (cursor_of self.now).symbols)) }
-        ensures names { OnOk result (rows order.new ≡ numbered (rows order.old) (chosen global (cursor_of self.now).symbols)) }
+        requires few { length (summary_of self.now).sections < 2 ^ 32 }
+        requires small { list_all is_small (summary_of self.now).symbols ≡ true }
+        ensures symbols { OnOk result (all.new ≡ all.old ++ map (symbol_at (summary_of self.now).sections) (chosen global (summary_of self.now).symbols)) }
+        ensures names { OnOk result (rows order.new ≡ numbered (rows order.old) (chosen global (summary_of self.now).symbols)) }
     {
         let mut i = 0;
         while let Some((name, symbol)) = self.symbols.entry(i) {
@@ -214,9 +214,9 @@ impl<'a> Assembler<'a> {
 
     /// The relocations, in order of their sections.
     fn relocs(&self, alloc: Global, order: &Table<()>) -> Result<Seq<Reloc>, OutOfMemory>
-        requires spellable { is_spellable (cursor_of self.now) ≡ true }
+        requires spellable { is_spellable (summary_of self.now) ≡ true }
         requires few { length (rows order.now) < 2 ^ 32 }
-        ensures { IfOk result (λ all. all ≡ relocs_at (rows order.now) 0 (cursor_of self.now).sections) }
+        ensures { IfOk result (λ all. all ≡ relocs_at (rows order.now) 0 (summary_of self.now).sections) }
     {
         let mut all = Seq::new(alloc);
         let mut k = 0;
@@ -229,10 +229,10 @@ impl<'a> Assembler<'a> {
 
     /// The symbols, locals first, and their names in that order.
     fn symbols(&self, alloc: Global, order: &mut Table<'a, ()>) -> Result<Seq<Symbol>, OutOfMemory>
-        requires few { length (cursor_of self.now).sections < 2 ^ 32 }
-        requires small { list_all is_small (cursor_of self.now).symbols ≡ true }
-        ensures symbols { IfOk result (λ all. all ≡ map (symbol_at (cursor_of self.now).sections) (ordered_at (cursor_of self.now).symbols)) }
-        ensures names { OnOk result (rows order.new ≡ numbered (rows order.old) (ordered_at (cursor_of self.now).symbols)) }
+        requires few { length (summary_of self.now).sections < 2 ^ 32 }
+        requires small { list_all is_small (summary_of self.now).symbols ≡ true }
+        ensures symbols { IfOk result (λ all. all ≡ map (symbol_at (summary_of self.now).sections) (ordered_at (summary_of self.now).symbols)) }
+        ensures names { OnOk result (rows order.new ≡ numbered (rows order.old) (ordered_at (summary_of self.now).symbols)) }
     {
         let mut all = Seq::new(alloc);
         self.push_symbols(alloc, false, &mut all, order)?;
@@ -242,9 +242,9 @@ impl<'a> Assembler<'a> {
 
     /// The object, whose numbers fit.
     fn spelled(&self, alloc: Global) -> Result<Object, OutOfMemory>
-        requires spellable { is_spellable (cursor_of self.now) ≡ true }
-        requires distinct { Distinct (map (λ e. e.0) (cursor_of self.now).symbols) }
-        ensures { IfOk result (λ o. o ≡ object_at (cursor_of self.now)) }
+        requires spellable { is_spellable (summary_of self.now) ≡ true }
+        requires distinct { Distinct (map (λ e. e.0) (summary_of self.now).symbols) }
+        ensures { IfOk result (λ o. o ≡ object_at (summary_of self.now)) }
     {
         let mut order = Table::new(alloc);
         let symbols = self.symbols(alloc, &mut order)?;
@@ -257,7 +257,7 @@ impl<'a> Assembler<'a> {
 
     /// The object; None where it has no file, since one of its numbers passes 32 bits or it has too many sections or symbols.
     pub fn object(&self, alloc: Global) -> Result<Option<Object>, OutOfMemory>
-        ensures { IfOk result (λ o. MatchOption o (is_spellable (cursor_of self.now) ≡ false) (λ o. o ≡ object_at (cursor_of self.now))) }
+        ensures { IfOk result (λ o. MatchOption o (is_spellable (summary_of self.now) ≡ false) (λ o. o ≡ object_at (summary_of self.now))) }
     {
         if self.is_spellable() {
             Ok(Some(self.spelled(alloc)?))

@@ -1,12 +1,12 @@
 //! The operands of instructions.
 
 ghost use Rattle.std.specs.Prelude.{◌≡◌, ◌<◌, ◌≤◌, ◌^◌, ◌-◌, ◌/◌, ◌%◌, ◌*◌, ◌+◌, Option, option_map, List, length, fold, IfSome, IfOk, Some, Ok, Err};
+ghost use Rattle.std.specs.Option.{option_map_or};
 ghost use Rattle.spu_isa.specs.Table.{InRange};
 ghost use Rattle.spu_reloc.specs.Fields.{kind_on};
-ghost use Rattle.spu_asm.specs.Names.{without_suffix};
-ghost use Rattle.spu_asm.specs.Values.{plain, here, symbol, value_in, value_of, operands_of};
-ghost use Rattle.spu_asm.specs.Parts.{lexemes, parts_left};
-ghost use Rattle.spu_asm.specs.Operands.{slots_of, is_optional, left, scaled, quotient, signed_number, addend_of, place_field, suffix_of, refers, in_range, small_given, value_given, base_given, given, all_given, with_field, read, blank, coded, given_in, coded_in, reading_in, or_bad, register};
+ghost use Rattle.spu_asm.specs.Names.{without_suffix, plain, here, symbol, value_of, operands_of};
+ghost use Rattle.spu_asm.specs.Kept.{value_of_code, lexemes, parts_left, given_in, coded_in, reading_in};
+ghost use Rattle.spu_asm.specs.Operands.{slots_of, is_optional, left, scaled, quotient, signed_number, addend_of, place_field, suffix_of, refers, in_range, small_given, value_given, base_given, given, all_given, with_field, read, bad, blank, coded, register};
 
 use crate::faults::AsmKind;
 use crate::names::{channel_of, register_of, without_suffix};
@@ -249,7 +249,7 @@ fn symbol_given<'a>(op: Op, slot: Slot, word: &'a [u8], number: Offset) -> Given
 /// What a value gives.
 #[tactic(auto, using(crate::proofs::OperandLemmas::no_value))]
 fn value_given<'a>(op: Op, slot: Slot, value: Option<Value<'a>>) -> Given<'a>
-    ensures { given_in result ≡ value_given op slot (option_map value_in value.entry) }
+    ensures { given_in result ≡ value_given op slot (option_map value_of_code value.entry) }
 {
     match value {
         Some(Value::Number(number)) => number_given(op, slot, number),
@@ -261,7 +261,7 @@ fn value_given<'a>(op: Op, slot: Slot, value: Option<Value<'a>>) -> Given<'a>
 
 /// The register of a word, or the channel.
 fn named<'a>(field: Field, number: Option<u8>) -> Given<'a>
-    ensures { given_in result ≡ or_bad (register field) number }
+    ensures { given_in result ≡ option_map_or (register field) number bad }
 {
     match number {
         Some(number) => Given::Register(field, number),

@@ -2,8 +2,8 @@
 
 ghost use Rattle.std.specs.Prelude.{◌≡◌, ◌∷◌, ◌-◌, ◌<◌, ◌≤◌, ◌^◌, length, take, drop, position, IfSome};
 ghost use Rattle.spu_text.specs.Lexemes.{lexeme_of};
-ghost use Rattle.spu_asm.specs.Values.{is_mark, parted, operands_of};
-ghost use Rattle.spu_asm.specs.Parts.{lexemes, parts_left};
+ghost use Rattle.spu_asm.specs.Names.{is_mark, parted, operands_of};
+ghost use Rattle.spu_asm.specs.Kept.{lexemes, parts_left};
 
 use spu_text::Piece;
 

@@ -1,9 +1,8 @@
 //! Statement after statement, with the first fault so far.
 
 ghost use Rattle.std.specs.Prelude.{◌≡◌, ◌∷◌, OnOk, IfOk, option_map};
-ghost use Rattle.spu_asm.specs.Statements.{stmt_of};
-ghost use Rattle.spu_asm.specs.Faults.{Run, nothing_yet, after, comes_before, earlier};
-ghost use Rattle.spu_asm.specs.Progressing.{InRun, Finishes, fault_of};
+ghost use Rattle.spu_asm.specs.Kept.{stmt_of, InRun, Finishes, fault_of};
+ghost use Rattle.spu_asm.specs.Assembly.{Run, nothing_yet, after, comes_before, earlier};
 
 use crate::accumulating::{Assembler, fault_number};
 use crate::faults::AsmKind;

@@ -1,13 +1,13 @@
 //! Quoted text and its escapes.
 
 ghost use Rattle.std.specs.Prelude.{◌≡◌, ◌<◌, ◌≤◌, ◌+◌, ◌-◌, ◌*◌, ◌%◌, true, [], ◌∷◌, length, take, drop, IfOk, IfSome, Some, is_some};
-ghost use Rattle.spu_asm.specs.Quotes.{is_octal, letter_of, escape, front, text_of};
+ghost use Rattle.spu_asm.specs.Statements.{is_octal, letter_of, escape, front, text_of};
 
 use spu_word::{Bytes, OutOfMemory, Seq};
 use std::alloc::Global;
 
 /// Whether a byte is an octal digit.
-#[tactic(auto, unfolding(crate::specs::Quotes::is_octal))]
+#[tactic(auto, unfolding(crate::specs::Statements::is_octal))]
 fn is_octal(b: u8) -> bool
     ensures { result ≡ is_octal b }
 {
@@ -15,7 +15,7 @@ fn is_octal(b: u8) -> bool
 }
 
 /// The byte that one character behind `\` stands for.
-#[tactic(auto, unfolding(crate::specs::Quotes::letter_of))]
+#[tactic(auto, unfolding(crate::specs::Statements::letter_of))]
 fn letter_of(c: u8) -> Option<u8>
     ensures { result ≡ letter_of c }
 {
@@ -32,7 +32,7 @@ fn letter_of(c: u8) -> Option<u8>
 }
 
 /// The byte of three octal digits, modulo 256.
-#[tactic(auto, unfolding(crate::specs::Quotes::is_octal))]
+#[tactic(auto, unfolding(crate::specs::Statements::is_octal))]
 fn octal(a: u8, b: u8, c: u8) -> u8
     requires a { is_octal a ≡ true }
     requires b { is_octal b ≡ true }
@@ -87,7 +87,7 @@ fn escape(bytes: &[u8]) -> Option<(u8, usize)>
 }
 
 /// The byte for which the front stands, and how many bytes behind the first belong to it.
-#[tactic(auto, unfolding(crate::specs::Quotes::front))]
+#[tactic(auto, unfolding(crate::specs::Statements::front))]
 fn front(first: u8, behind: &[u8]) -> Option<(u8, usize)>
     ensures value { result ≡ front first behind.now }
     ensures within { IfSome result (λ x. x.1 ≤ length behind.now) }
@@ -110,7 +110,7 @@ fn inside_quotes(quoted: &[u8]) -> &[u8]
 }
 
 /// The bytes for which quoted text stands; None where it has an escape that isn't known.
-#[tactic(auto, using(crate::proofs::QuoteLemmas::text_step, crate::proofs::QuoteLemmas::text_stops, crate::proofs::QuoteLemmas::text_ends), unfolding(crate::specs::Quotes::text_of))]
+#[tactic(auto, using(crate::proofs::QuoteLemmas::text_step, crate::proofs::QuoteLemmas::text_stops, crate::proofs::QuoteLemmas::text_ends), unfolding(crate::specs::Statements::text_of))]
 pub fn text_of(alloc: Global, quoted: &[u8]) -> Result<Option<Bytes>, OutOfMemory>
     ensures { IfOk result (λ t. t ≡ text_of quoted.now) }
 {
@@ -127,7 +127,7 @@ pub fn text_of(alloc: Global, quoted: &[u8]) -> Result<Option<Bytes>, OutOfMemor
 }
 
 /// Whether each escape in quoted text is known.
-#[tactic(auto, using(crate::proofs::QuoteLemmas::known_step, crate::proofs::QuoteLemmas::known_stops, crate::proofs::QuoteLemmas::known_ends), unfolding(crate::specs::Quotes::text_of))]
+#[tactic(auto, using(crate::proofs::QuoteLemmas::known_step, crate::proofs::QuoteLemmas::known_stops, crate::proofs::QuoteLemmas::known_ends), unfolding(crate::specs::Statements::text_of))]
 pub fn is_known(quoted: &[u8]) -> bool
     ensures { result ≡ is_some (text_of quoted.now) }
 {

@@ -2,13 +2,11 @@
 
 ghost use Rattle.std.specs.Prelude.{◌≡◌, ◌+◌, ◌*◌, ◌/◌, ◌≤◌, ◌<◌, [], ◌∷◌, ◌++◌, length, map, replicate, OnOk, IfSome, option_map, Option, Some};
 ghost use Rattle.std.specs.List.{concat};
+ghost use Rattle.std.specs.Option.{option_to_list};
 ghost use Rattle.spu_word.specs.Bytes.{be_digits};
-ghost use Rattle.spu_asm.specs.Statements.{effect_of, instruction_of, content_of, relocations_by, address_relocation, listed, align, moved};
-ghost use Rattle.spu_asm.specs.Histories.{gap, filling};
-ghost use Rattle.spu_asm.specs.Tables.{edited, opened, value_in};
-ghost use Rattle.spu_asm.specs.Summaries.{Draft, size_at};
-ghost use Rattle.spu_asm.specs.Cursors.{relocation_of_pending, draft_of, drafts, blank, grown, referring, raised, grown_by, Fits};
-ghost use Rattle.spu_asm.specs.Operands.{target_in};
+ghost use Rattle.spu_asm.specs.Kept.{effect_of, instruction_of, content_of, address_relocation, edited, opened, relocation_of_pending, draft_of, drafts, blank, grown, referring, raised, grown_by, Fits, target_in};
+ghost use Rattle.spu_asm.specs.Statements.{relocations_by, align, moved};
+ghost use Rattle.spu_asm.specs.Histories.{gap, filling, value_in, Draft, size_at};
 ghost use Rattle.spu_reloc.specs.Fields.{number_of};
 
 use crate::operands::Target;
@@ -84,7 +82,7 @@ fn number_of(kind: RelocKind) -> u32
 
 /// The relocation that a symbol makes in an instruction at an offset.
 fn relocation_at<'a>(at: u32, kind: RelocKind, target: &Target<'a>) -> Option<Pending<'a>>
-    ensures { map relocation_of_pending (listed result) ≡ moved at (relocations_by kind (Some (target_in target.now))) }
+    ensures { map relocation_of_pending (option_to_list result) ≡ moved at (relocations_by kind (Some (target_in target.now))) }
 {
     match kind {
         RelocKind::Addr32 => None,
@@ -250,7 +248,7 @@ impl<'a> SectionDraft<'a> {
     }
 
     /// What a statement adds to the section.
-    #[tactic(auto, unfolding(crate::specs::Statements::effect_of))]
+    #[tactic(auto, unfolding(crate::specs::Kept::effect_of))]
     fn obey(&mut self, action: &Action<'a>) -> Result<(), OutOfMemory>
         requires { Fits (effect_of action.now) (draft_of self.old) }
         ensures { OnOk result (draft_of self.new ≡ grown_by (effect_of action.now) (draft_of self.old)) }

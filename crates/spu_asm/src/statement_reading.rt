@@ -4,13 +4,10 @@ ghost use Rattle.std.specs.Prelude.{◌≡◌, ◌<◌, ◌≤◌, ◌^◌, ℕ,
 ghost use Rattle.std.specs.List.{list_all};
 ghost use Rattle.spu_text.specs.Lexemes.{lexeme_of};
 ghost use Rattle.spu_isa.specs.declared.operation.Op.{Op};
-ghost use Rattle.spu_asm.specs.Parts.{lexemes};
-ghost use Rattle.spu_asm.specs.Values.{operands_of};
+ghost use Rattle.spu_asm.specs.Kept.{lexemes, stmt_of, Gives, label_of};
+ghost use Rattle.spu_asm.specs.Names.{operands_of};
 ghost use Rattle.spu_asm.specs.Operands.{coded};
-ghost use Rattle.spu_asm.specs.Statements.{stmt_of};
-ghost use Rattle.spu_asm.specs.Contents.{Gives};
-ghost use Rattle.spu_asm.specs.Directives.{directive_of};
-ghost use Rattle.spu_asm.specs.StatementReading.{label_of, labels_of, behind_labels, instructed, op_of, operation, directed, said, has_sound_quotes, statement_of};
+ghost use Rattle.spu_asm.specs.Statements.{directive_of, labels_of, behind_labels, instructed, op_of, operation, directed, said, has_sound_quotes, statement_of};
 
 use crate::directives::{action_of, directive_of};
 use crate::faults::AsmKind;
@@ -62,7 +59,7 @@ fn behind_labels<'p, 'a>(pieces: &'p [Piece<'a>]) -> &'p [Piece<'a>]
 }
 
 /// An operation with its operands.
-#[tactic(auto, unfolding(crate::specs::Statements::effect_of))]
+#[tactic(auto, unfolding(crate::specs::Kept::effect_of))]
 fn instruction<'a>(op: Op, pieces: &[Piece<'a>]) -> Result<Action<'a>, Refusal>
     ensures { Gives result (instructed op (coded op (operands_of (lexemes pieces.now)))) }
 {
@@ -109,7 +106,7 @@ fn named_instruction<'a>(name: &[u8], pieces: &[Piece<'a>]) -> Result<Action<'a>
 }
 
 /// What the pieces behind the labels do.
-#[tactic(auto, unfolding(crate::specs::Statements::effect_of))]
+#[tactic(auto, unfolding(crate::specs::Kept::effect_of))]
 fn action<'a>(alloc: Global, pieces: &[Piece<'a>]) -> Result<Action<'a>, Refusal>
     ensures { Gives result (said (lexemes pieces.now)) }
 {

@@ -1,11 +1,8 @@
 //! Symbols as statements tell of them.
 
-ghost use Rattle.std.specs.Prelude.{◌≡◌, ◌||◌, option_map, ◌-◌, map, is_none, Some, OnOk, true};
-ghost use Rattle.spu_asm.specs.Statements.{effect_of, instruction_names, address_relocation};
-ghost use Rattle.spu_asm.specs.Histories.{reach, relocation_names, named_by};
-ghost use Rattle.spu_asm.specs.Tables.{put};
-ghost use Rattle.spu_asm.specs.Summaries.{unseen, placed, told_of, spot_at};
-ghost use Rattle.spu_asm.specs.Cursors.{spot_of_code, sighting_of, sightings, state_at, told, told_all};
+ghost use Rattle.std.specs.Prelude.{◌≡◌, ◌||◌, option_map, ◌-◌, map, is_none, unwrap_or, Some, OnOk, true};
+ghost use Rattle.spu_asm.specs.Kept.{effect_of, instruction_names, address_relocation, put, spot_of_code, sighting_of, sightings, told, told_all};
+ghost use Rattle.spu_asm.specs.Histories.{reach, named_by, value_in, unseen, placed, told_of, spot_at};
 
 use crate::statements::{Action, AddressValue, Instruction};
 use crate::tables::Table;
@@ -64,7 +61,7 @@ impl<'a> SymbolDraft<'a> {
 impl<'a> Table<'a, SymbolDraft<'a>> {
     /// What is known of a symbol.
     fn state(&self, name: &[u8]) -> SymbolDraft<'a>
-        ensures { sighting_of result ≡ state_at (sightings self.now) name.now }
+        ensures { sighting_of result ≡ unwrap_or (value_in (sightings self.now) name.now) unseen }
     {
         match self.get(name) {
             Some(symbol) => *symbol,
@@ -198,7 +195,7 @@ impl<'a> Table<'a, SymbolDraft<'a>> {
 
     /// Names the symbols among values.
     fn mention_values(&mut self, addresses: &[AddressValue<'a>]) -> Result<(), OutOfMemory>
-        ensures { OnOk result (sightings self.new ≡ told_all (sightings self.old) (relocation_names (map address_relocation addresses.now)) (λ s. s)) }
+        ensures { OnOk result (sightings self.new ≡ told_all (sightings self.old) (map (λ r. r.name) (map address_relocation addresses.now)) (λ s. s)) }
     {
         for address in addresses {
             self.mention(address.name)?;
@@ -207,7 +204,7 @@ impl<'a> Table<'a, SymbolDraft<'a>> {
     }
 
     /// What a statement tells of symbols, where the next byte stands at this place, and a common symbol there.
-    #[tactic(auto, unfolding(crate::specs::Statements::effect_of))]
+    #[tactic(auto, unfolding(crate::specs::Kept::effect_of))]
     pub fn obey(
         &mut self,
         action: &Action<'a>,

@@ -2,7 +2,8 @@
 
 ghost use Rattle.std.specs.Prelude.{◌≡◌, true, Some, ◌+◌, ◌<◌, ◌≤◌, ◌^◌, [], ◌∷◌, length, map, drop, MatchOption, IfSome, OnOk};
 ghost use Rattle.std.specs.Option.{option_copied};
-ghost use Rattle.spu_asm.specs.Tables.{Distinct, rows, value_in, index_in, opened, place_in, put};
+ghost use Rattle.spu_asm.specs.Kept.{Distinct, rows, opened, place_in, put};
+ghost use Rattle.spu_asm.specs.Histories.{value_in, index_in};
 
 use indexmap::IndexMap;
 use spu_word::OutOfMemory;

@@ -1,8 +1,8 @@
 //! Values in operands and directives: numbers, the statement's own place, and symbols with an addend.
 
 ghost use Rattle.std.specs.Prelude.{◌≡◌, true, false, Option, option_map};
-ghost use Rattle.spu_asm.specs.Values.{offset, natural, value_in, value_of, word_value};
-ghost use Rattle.spu_asm.specs.Parts.{lexemes};
+ghost use Rattle.spu_asm.specs.Names.{offset, natural, value_of, word_value};
+ghost use Rattle.spu_asm.specs.Kept.{value_of_code, lexemes};
 
 use crate::names::is_symbol;
 use spu_text::Piece;
@@ -59,9 +59,9 @@ fn minus(size: u128) -> Offset
 }
 
 /// The value of a word and what is added to it.
-#[tactic(auto, unfolding(crate::specs::Values::word_value))]
+#[tactic(auto, unfolding(crate::specs::Names::word_value))]
 fn word_value<'a>(word: &'a [u8], offset: Offset) -> Option<Value<'a>>
-    ensures { option_map value_in result ≡ word_value word.now offset }
+    ensures { option_map value_of_code result ≡ word_value word.now offset }
 {
     if word == b".".as_slice() {
         Some(Value::Here(offset))
@@ -73,9 +73,9 @@ fn word_value<'a>(word: &'a [u8], offset: Offset) -> Option<Value<'a>>
 }
 
 /// The value that an operand is.
-#[tactic(auto, unfolding(crate::specs::Values::value_of))]
+#[tactic(auto, unfolding(crate::specs::Names::value_of))]
 pub fn value_of<'a>(operand: &[Piece<'a>]) -> Option<Value<'a>>
-    ensures { option_map value_in result ≡ value_of (lexemes operand.now) }
+    ensures { option_map value_of_code result ≡ value_of (lexemes operand.now) }
 {
     match operand {
         [Piece::Number(size)] => Some(Value::Number(plus(*size))),

@@ -43,8 +43,7 @@ use Rattle.spu_word.specs.declared.load.Inputs.{Inputs}
 use Rattle.hex.specs.Hex.{encode_lower}
 use Rattle.spu_tool.specs.Areas.{areas_of}
 use Rattle.spu_map.specs.Maps.{map_text}
-use Rattle.spu_asm.specs.Assembly.{Assembles, IsFaultOf}
-use Rattle.spu_asm.specs.Faults.{Fault}
+use Rattle.spu_asm.specs.Assembly.{Assembles, IsFaultOf, Fault}
 use Rattle.spu_ls.specs.Machine.{State, steps}
 use Rattle.spu_ls.specs.Start.{start}
 use Rattle.spu_ls.specs.Loading.{load_fault}

@@ -1,5 +1,5 @@
 use Rattle.spu_text.specs.Lexemes.{lexemes_of}
-use Rattle.spu_asm.specs.Progressing.{InRun}
+use Rattle.spu_asm.specs.Kept.{InRun}
 use Rattle.spu_asm.proofs.AssemblySteps.{fault_taken}
 use Rattle.spu_asm.proofs.assembly.take_line.Goals as goal
 

@@ -1,9 +1,7 @@
-use Rattle.spu_asm.specs.Parts.{lexemes, parts_left}
-use Rattle.spu_asm.specs.Values.{parted}
-use Rattle.spu_asm.specs.Faults.{Run}
-use Rattle.spu_asm.specs.Progressing.{InRun}
+use Rattle.spu_asm.specs.Kept.{lexemes, parts_left, InRun}
+use Rattle.spu_asm.specs.Names.{parted}
+use Rattle.spu_asm.specs.Assembly.{Run, statements_after}
 use Rattle.spu_asm.proofs.ProgressLemmas.{Leads}
-use Rattle.spu_asm.specs.Assembly.{statements_after}
 use Rattle.spu_asm.proofs.PiecesLeft.{pieces_left}
 use Rattle.spu_asm.proofs.assembly.take_statements.Given as goal
 

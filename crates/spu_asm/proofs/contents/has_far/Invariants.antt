@@ -1,8 +1,8 @@
 use Rattle.std.proofs.Common.{◌≡◌}
 use Rattle.std.specs.Prelude.{map}
 use Rattle.std.specs.List.{list_any}
-use Rattle.spu_asm.specs.Parts.{parts_left}
-use Rattle.spu_asm.specs.Contents.{is_far, value_in}
+use Rattle.spu_asm.specs.Kept.{parts_left}
+use Rattle.spu_asm.specs.Statements.{is_far, value_in}
 use Rattle.spu_asm.proofs.PiecesLeft.{pieces_left}
 use Rattle.spu_asm.proofs.contents.has_far.Given as goal
 

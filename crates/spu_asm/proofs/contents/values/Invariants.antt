@@ -1,8 +1,7 @@
 use Rattle.std.proofs.Common.{◌≡◌, Ok}
 use Rattle.std.specs.Prelude.{map, fold}
-use Rattle.spu_asm.specs.Parts.{lexemes, parts_left}
-use Rattle.spu_asm.specs.Contents.{joined, value_in, values_of}
-use Rattle.spu_asm.specs.Statements.{content_of}
+use Rattle.spu_asm.specs.Kept.{lexemes, parts_left, content_of}
+use Rattle.spu_asm.specs.Statements.{joined, value_in, values_of}
 use Rattle.spu_asm.proofs.PiecesLeft.{pieces_left}
 use Rattle.spu_asm.proofs.contents.values.Given as goal
 

@@ -1,4 +1,4 @@
-use Rattle.spu_asm.specs.Parts.{lexemes}
+use Rattle.spu_asm.specs.Kept.{lexemes}
 use Rattle.spu_asm.proofs.OperandLemmas.{common_extra}
 use Rattle.spu_asm.proofs.directives.common_by.Goals as goal
 

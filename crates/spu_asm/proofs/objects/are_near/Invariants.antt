@@ -1,6 +1,6 @@
 use Rattle.std.proofs.Common.{◌≡◌, length, map}
 use Rattle.std.specs.List.{list_all}
-use Rattle.spu_asm.specs.Cursors.{relocation_of_pending, is_near}
+use Rattle.spu_asm.specs.Kept.{relocation_of_pending, is_near}
 use Rattle.spu_asm.proofs.objects.are_near.Given as goal
 
 abbrev pub invariant-loop-rest : goal.invariant-loop-rest

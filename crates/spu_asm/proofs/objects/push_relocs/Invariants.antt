@@ -1,8 +1,7 @@
 use Rattle.std.proofs.Common.{◌≡◌, ◌++◌, length, map, true}
 use Rattle.std.specs.List.{list_all}
-use Rattle.spu_asm.specs.Tables.{rows}
-use Rattle.spu_asm.specs.Objects.{reloc_at}
-use Rattle.spu_asm.specs.Cursors.{relocation_of_pending, is_near}
+use Rattle.spu_asm.specs.Kept.{rows, relocation_of_pending, is_near}
+use Rattle.spu_asm.specs.Assembly.{reloc_at}
 use Rattle.spu_asm.proofs.objects.push_relocs.Given as goal
 
 abbrev pub invariant-loop-rest : goal.invariant-loop-rest

@@ -1,5 +1,5 @@
-use Rattle.spu_asm.specs.Parts.{lexemes}
-use Rattle.spu_asm.specs.Values.{operands_of}
+use Rattle.spu_asm.specs.Kept.{lexemes}
+use Rattle.spu_asm.specs.Names.{operands_of}
 use Rattle.spu_asm.proofs.InRanges.{reads_in_range, reads_op}
 use Rattle.spu_asm.proofs.operands.instruction_of.Goals as goal
 

@@ -1,5 +1,5 @@
 use Rattle.std.proofs.Common.{◌≡◌, ◌≤◌, ◌+◌, length}
-use Rattle.spu_asm.specs.Parts.{parts_left}
+use Rattle.spu_asm.specs.Kept.{parts_left}
 use Rattle.spu_asm.proofs.PiecesLeft.{pieces_left}
 use Rattle.spu_asm.proofs.parts.operand_count.Given as goal
 

@@ -1,6 +1,6 @@
 use Rattle.std.proofs.Common.{◌≡◌, length}
 use Rattle.std.specs.Prelude.{is_some}
-use Rattle.spu_asm.specs.Quotes.{unescaped, text_of}
+use Rattle.spu_asm.specs.Statements.{unescaped, text_of}
 use Rattle.spu_asm.proofs.quotes.is_known.Given as goal
 
 abbrev pub invariant-loop-rest : goal.invariant-loop-rest

@@ -1,6 +1,6 @@
 use Rattle.std.proofs.Common.{◌≡◌, ◌++◌, length, List, ℕ}
 use Rattle.std.specs.Prelude.{option_map}
-use Rattle.spu_asm.specs.Quotes.{unescaped, text_of}
+use Rattle.spu_asm.specs.Statements.{unescaped, text_of}
 use Rattle.spu_asm.proofs.quotes.text_of.Given as goal
 
 abbrev pub invariant-loop-rest : goal.invariant-loop-rest

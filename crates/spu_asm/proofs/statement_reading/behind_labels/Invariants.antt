@@ -1,6 +1,6 @@
 use Rattle.std.proofs.Common.{◌≡◌, ◌≤◌, ◌-◌, length, drop}
-use Rattle.spu_asm.specs.Parts.{lexemes}
-use Rattle.spu_asm.specs.StatementReading.{behind_labels}
+use Rattle.spu_asm.specs.Kept.{lexemes}
+use Rattle.spu_asm.specs.Statements.{behind_labels}
 use Rattle.spu_asm.proofs.statement_reading.behind_labels.Given as goal
 
 abbrev pub invariant-loop-at : goal.invariant-loop-at

@@ -1,7 +1,7 @@
 use Rattle.std.proofs.Common.{◌≡◌, length}
 use Rattle.std.specs.List.{list_all}
-use Rattle.spu_asm.specs.Parts.{lexemes}
-use Rattle.spu_asm.specs.StatementReading.{has_sound_quotes}
+use Rattle.spu_asm.specs.Kept.{lexemes}
+use Rattle.spu_asm.specs.Statements.{has_sound_quotes}
 use Rattle.spu_asm.proofs.statement_reading.have_sound_quotes.Given as goal
 
 abbrev pub invariant-loop-rest : goal.invariant-loop-rest

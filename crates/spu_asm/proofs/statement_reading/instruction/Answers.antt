@@ -1,4 +1,4 @@
-use Rattle.spu_asm.specs.Statements.{effect_of}
+use Rattle.spu_asm.specs.Kept.{effect_of}
 use Rattle.spu_asm.proofs.OperandLemmas.{instructs}
 use Rattle.spu_asm.proofs.Encodings.{word_is}
 use Rattle.spu_asm.proofs.statement_reading.instruction.Goals as goal

@@ -1,8 +1,8 @@
 use Rattle.std.proofs.Common.{◌≡◌, ◌++◌, ◌≤◌, ◌-◌, length, drop, List, ℕ}
 use Rattle.std.specs.Prelude.{map}
 use Rattle.std.specs.Borrow.{Bor}
-use Rattle.spu_asm.specs.Parts.{lexemes}
-use Rattle.spu_asm.specs.StatementReading.{labels_of}
+use Rattle.spu_asm.specs.Kept.{lexemes}
+use Rattle.spu_asm.specs.Statements.{labels_of}
 use Rattle.spu_asm.proofs.statement_reading.labels_of.Given as goal
 
 abbrev pub invariant-loop-name : goal.invariant-loop-name

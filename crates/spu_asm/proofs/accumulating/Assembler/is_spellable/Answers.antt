@@ -1,7 +1,6 @@
 use Rattle.std.proofs.Common.{List, sym, subst}
-use Rattle.spu_asm.specs.Statements.{Name}
-use Rattle.spu_asm.specs.Tables.{rows, Distinct}
-use Rattle.spu_asm.specs.Cursors.{sighting_of}
+use Rattle.spu_asm.specs.Names.{Name}
+use Rattle.spu_asm.specs.Kept.{rows, Distinct, sighting_of}
 use Rattle.spu_asm.proofs.TableLemmas.{names_with}
 use Rattle.spu_asm.proofs.accumulating.Assembler.is_spellable.Goals as goal
 

@@ -1,5 +1,4 @@
-use Rattle.spu_asm.specs.Statements.{effect_of}
-use Rattle.spu_asm.specs.Cursors.{drafts}
+use Rattle.spu_asm.specs.Kept.{effect_of, drafts}
 use Rattle.spu_asm.proofs.FitLemmas.{common_near}
 use Rattle.spu_asm.proofs.accumulating.Assembler.obey_in.Goals as goal
 

@@ -1,8 +1,7 @@
 use Rattle.std.proofs.Common.{◌≡◌, ◌-◌, ◌++◌, length, drop, map, true}
 use Rattle.std.specs.List.{list_all}
-use Rattle.spu_asm.specs.Tables.{rows, with_values}
-use Rattle.spu_asm.specs.Objects.{symbol_at, chosen}
-use Rattle.spu_asm.specs.Cursors.{sighting_of, drafts, sightings, is_small, numbered}
+use Rattle.spu_asm.specs.Kept.{rows, with_values, sighting_of, drafts, sightings, is_small, numbered}
+use Rattle.spu_asm.specs.Assembly.{symbol_at, chosen}
 use Rattle.spu_asm.proofs.accumulating.Assembler.push_symbols.Given as goal
 
 abbrev pub invariant-loop-name : goal.invariant-loop-name

@@ -1,8 +1,7 @@
 use Rattle.std.proofs.Common.{◌≡◌, ◌≤◌, ◌-◌, ◌++◌, length, drop, true}
 use Rattle.std.specs.List.{list_all}
-use Rattle.spu_asm.specs.Tables.{rows, with_values}
-use Rattle.spu_asm.specs.Objects.{relocs_at}
-use Rattle.spu_asm.specs.Cursors.{draft_of, drafts, has_near}
+use Rattle.spu_asm.specs.Kept.{rows, with_values, draft_of, drafts, has_near}
+use Rattle.spu_asm.specs.Assembly.{relocs_at}
 use Rattle.spu_asm.proofs.accumulating.Assembler.relocs.Given as goal
 
 abbrev pub invariant-loop-draft : goal.invariant-loop-draft

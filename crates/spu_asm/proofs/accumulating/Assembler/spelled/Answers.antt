@@ -1,5 +1,5 @@
 use Rattle.std.proofs.Common.{◌∙◌, rules}
-use Rattle.spu_asm.specs.Cursors.{drafts, sightings}
+use Rattle.spu_asm.specs.Kept.{drafts, sightings}
 use Rattle.spu_asm.proofs.OrderLemmas.{few_numbers, relocs_are, object_made}
 use Rattle.spu_asm.proofs.accumulating.Assembler.spelled.Goals as goal
 

@@ -1,5 +1,5 @@
-use Rattle.spu_asm.specs.Objects.{symbol_at}
-use Rattle.spu_asm.specs.Cursors.{drafts, sightings}
+use Rattle.spu_asm.specs.Assembly.{symbol_at}
+use Rattle.spu_asm.specs.Kept.{drafts, sightings}
 use Rattle.spu_asm.proofs.OrderLemmas.{symbols_are, names_are}
 use Rattle.spu_asm.proofs.accumulating.Assembler.symbols.Goals as goal
 

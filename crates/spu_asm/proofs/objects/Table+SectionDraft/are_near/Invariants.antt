@@ -1,7 +1,6 @@
 use Rattle.std.proofs.Common.{◌≡◌, ◌-◌, length, drop}
 use Rattle.std.specs.List.{list_all}
-use Rattle.spu_asm.specs.Tables.{rows, with_values}
-use Rattle.spu_asm.specs.Cursors.{draft_of, drafts, has_near}
+use Rattle.spu_asm.specs.Kept.{rows, with_values, draft_of, drafts, has_near}
 use Rattle.spu_asm.proofs.objects.Table+SectionDraft.are_near.Given as goal
 
 abbrev pub invariant-loop-draft : goal.invariant-loop-draft

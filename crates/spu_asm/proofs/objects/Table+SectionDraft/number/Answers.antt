@@ -1,6 +1,5 @@
 use Rattle.std.proofs.Common.{◌∙◌}
-use Rattle.spu_asm.specs.Tables.{rows}
-use Rattle.spu_asm.specs.Cursors.{draft_of}
+use Rattle.spu_asm.specs.Kept.{rows, draft_of}
 use Rattle.spu_asm.proofs.TableLemmas.{index_with}
 use Rattle.spu_asm.proofs.objects.Table+SectionDraft.number.Goals as goal
 

@@ -1,7 +1,6 @@
 use Rattle.std.proofs.Common.{◌≡◌, ◌-◌, ◌++◌, length, drop, map}
-use Rattle.spu_asm.specs.Tables.{rows, with_values}
-use Rattle.spu_asm.specs.Objects.{section_at}
-use Rattle.spu_asm.specs.Cursors.{draft_of, drafts}
+use Rattle.spu_asm.specs.Kept.{rows, with_values, draft_of, drafts}
+use Rattle.spu_asm.specs.Assembly.{section_at}
 use Rattle.spu_asm.proofs.objects.Table+SectionDraft.sections.Given as goal
 
 abbrev pub invariant-loop-name : goal.invariant-loop-name

@@ -1,7 +1,6 @@
 use Rattle.std.proofs.Common.{◌≡◌, ◌-◌, length, drop}
 use Rattle.std.specs.List.{list_all}
-use Rattle.spu_asm.specs.Tables.{rows, with_values}
-use Rattle.spu_asm.specs.Cursors.{sighting_of, sightings, is_small}
+use Rattle.spu_asm.specs.Kept.{rows, with_values, sighting_of, sightings, is_small}
 use Rattle.spu_asm.proofs.objects.Table+SymbolDraft.are_small.Given as goal
 
 abbrev pub invariant-loop-symbol : goal.invariant-loop-symbol

@@ -1,6 +1,6 @@
 use Rattle.std.proofs.Common.{ap, arith}
 use Rattle.spu_word.specs.Bytes.{be_digits}
-use Rattle.spu_asm.specs.Summaries.{Draft}
+use Rattle.spu_asm.specs.Histories.{Draft}
 use Rattle.spu_asm.proofs.DraftLemmas.{grown_copies}
 use Rattle.spu_asm.proofs.sections.SectionDraft.append_lnops.Goals as goal
 

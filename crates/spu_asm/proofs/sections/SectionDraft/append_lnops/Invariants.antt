@@ -1,7 +1,7 @@
 use Rattle.std.proofs.Common.{◌≡◌, ◌+◌, ◌*◌, replicate}
 use Rattle.std.specs.List.{concat}
 use Rattle.spu_word.specs.Bytes.{be_digits}
-use Rattle.spu_asm.specs.Cursors.{draft_of, grown}
+use Rattle.spu_asm.specs.Kept.{draft_of, grown}
 use Rattle.spu_asm.proofs.sections.SectionDraft.append_lnops.Given as goal
 
 abbrev pub invariant-loop : goal.invariant-loop

@@ -1,6 +1,6 @@
 use Rattle.std.proofs.Common.{◌∙◌, ap}
-use Rattle.spu_asm.specs.Statements.{address_relocation}
-use Rattle.spu_asm.specs.Summaries.{Draft}
+use Rattle.spu_asm.specs.Kept.{address_relocation}
+use Rattle.spu_asm.specs.Histories.{Draft}
 use Rattle.spu_asm.proofs.DraftLemmas.{referring_more}
 use Rattle.spu_asm.proofs.sections.SectionDraft.refer_all.Goals as goal
 

@@ -1,6 +1,6 @@
 use Rattle.std.proofs.Common.{◌≡◌, map, take}
-use Rattle.spu_asm.specs.Statements.{address_relocation, moved}
-use Rattle.spu_asm.specs.Cursors.{draft_of, referring}
+use Rattle.spu_asm.specs.Kept.{address_relocation, draft_of, referring}
+use Rattle.spu_asm.specs.Statements.{moved}
 use Rattle.spu_asm.proofs.sections.SectionDraft.refer_all.Given as goal
 
 abbrev pub invariant-loop-address : goal.invariant-loop-address

@@ -1,8 +1,7 @@
 use Rattle.std.proofs.Common.{ap, sym, ◌∙◌}
 use Rattle.std.specs.Prelude.{option_map}
-use Rattle.spu_asm.specs.Tables.{rows}
-use Rattle.spu_asm.specs.Summaries.{Draft}
-use Rattle.spu_asm.specs.Cursors.{draft_of}
+use Rattle.spu_asm.specs.Kept.{rows, draft_of}
+use Rattle.spu_asm.specs.Histories.{Draft}
 use Rattle.spu_asm.proofs.TableLemmas.{value_with}
 use Rattle.spu_asm.proofs.sections.Table+SectionDraft.kind.Goals as goal
 

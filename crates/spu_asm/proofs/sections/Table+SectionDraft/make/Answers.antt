@@ -1,8 +1,7 @@
 use Rattle.std.proofs.Common.{ap, ◌∙◌}
 use Rattle.indexmap.proofs.MapLemmas.{OnOk-map}
-use Rattle.spu_asm.specs.Tables.{rows, opened, with_values}
-use Rattle.spu_asm.specs.Summaries.{Draft}
-use Rattle.spu_asm.specs.Cursors.{draft_of, drafts}
+use Rattle.spu_asm.specs.Kept.{rows, opened, with_values, draft_of, drafts}
+use Rattle.spu_asm.specs.Histories.{Draft}
 use Rattle.spu_asm.proofs.TableLemmas.{opened_with}
 use Rattle.spu_asm.proofs.sections.Table+SectionDraft.make.Goals as goal
 

@@ -1,7 +1,6 @@
 use Rattle.std.proofs.Common.{sym}
 use Rattle.indexmap.proofs.MapLemmas.{OnOk-map}
-use Rattle.spu_asm.specs.Statements.{effect_of}
-use Rattle.spu_asm.specs.Cursors.{draft_of, grown_by}
+use Rattle.spu_asm.specs.Kept.{effect_of, draft_of, grown_by}
 use Rattle.spu_asm.proofs.TableLemmas.{edited_first, edited_none, value_first}
 use Rattle.spu_asm.proofs.sections.Table+SectionDraft.obey.Goals as goal
 

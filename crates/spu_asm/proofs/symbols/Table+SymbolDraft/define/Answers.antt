@@ -1,6 +1,6 @@
 use Rattle.indexmap.proofs.MapLemmas.{OnOk-map}
-use Rattle.spu_asm.specs.Summaries.{placed}
-use Rattle.spu_asm.specs.Cursors.{sightings, spot_of_code}
+use Rattle.spu_asm.specs.Histories.{placed}
+use Rattle.spu_asm.specs.Kept.{sightings, spot_of_code}
 use Rattle.spu_asm.proofs.SymbolLemmas.{told_noted}
 use Rattle.spu_asm.proofs.symbols.Table+SymbolDraft.define.Goals as goal
 

@@ -1,6 +1,6 @@
 use Rattle.std.proofs.Common.{◌≡◌, List, ℕ, length, map, Bor}
-use Rattle.spu_asm.specs.Summaries.{placed}
-use Rattle.spu_asm.specs.Cursors.{sightings, told_all, spot_of_code}
+use Rattle.spu_asm.specs.Histories.{placed}
+use Rattle.spu_asm.specs.Kept.{sightings, told_all, spot_of_code}
 use Rattle.spu_asm.proofs.symbols.Table+SymbolDraft.define_all.Given as goal
 
 abbrev pub invariant-loop-rest : goal.invariant-loop-rest

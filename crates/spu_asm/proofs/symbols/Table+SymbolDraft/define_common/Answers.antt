@@ -1,7 +1,7 @@
 use Rattle.std.specs.Prelude.{Some}
 use Rattle.indexmap.proofs.MapLemmas.{OnOk-map}
-use Rattle.spu_asm.specs.Summaries.{Sighting}
-use Rattle.spu_asm.specs.Cursors.{sightings, spot_of_code}
+use Rattle.spu_asm.specs.Histories.{Sighting}
+use Rattle.spu_asm.specs.Kept.{sightings, spot_of_code}
 use Rattle.spu_asm.proofs.SymbolLemmas.{told_noted}
 use Rattle.spu_asm.proofs.symbols.Table+SymbolDraft.define_common.Goals as goal
 

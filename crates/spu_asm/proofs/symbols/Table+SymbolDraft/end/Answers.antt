@@ -1,9 +1,7 @@
 use Rattle.std.proofs.Common.{ℕ, ap, ◌∙◌}
 use Rattle.indexmap.proofs.MapLemmas.{OnOk-map}
-use Rattle.spu_asm.specs.Histories.{reach}
-use Rattle.spu_asm.specs.Tables.{put}
-use Rattle.spu_asm.specs.Summaries.{Sighting}
-use Rattle.spu_asm.specs.Cursors.{sightings, sighting_of}
+use Rattle.spu_asm.specs.Histories.{reach, Sighting}
+use Rattle.spu_asm.specs.Kept.{put, sightings, sighting_of}
 use Rattle.spu_asm.proofs.SymbolLemmas.{told_noted}
 use Rattle.spu_asm.proofs.symbols.Table+SymbolDraft.end.Goals as goal
 

@@ -1,8 +1,7 @@
 use Rattle.std.proofs.Common.{ap, sym, ◌∙◌}
 use Rattle.indexmap.proofs.MapLemmas.{OnOk-map}
-use Rattle.spu_asm.specs.Tables.{rows, opened, with_values}
-use Rattle.spu_asm.specs.Summaries.{Sighting}
-use Rattle.spu_asm.specs.Cursors.{sighting_of, sightings}
+use Rattle.spu_asm.specs.Kept.{rows, opened, with_values, sighting_of, sightings}
+use Rattle.spu_asm.specs.Histories.{Sighting}
 use Rattle.spu_asm.proofs.TableLemmas.{opened_with}
 use Rattle.spu_asm.proofs.SymbolLemmas.{edited_same}
 use Rattle.spu_asm.proofs.symbols.Table+SymbolDraft.mention.Goals as goal

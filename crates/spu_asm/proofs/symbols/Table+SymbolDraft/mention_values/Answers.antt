@@ -1,4 +1,4 @@
-use Rattle.spu_asm.specs.Statements.{address_relocation}
+use Rattle.spu_asm.specs.Kept.{address_relocation}
 use Rattle.spu_asm.proofs.SymbolLemmas.{mentioned_more}
 use Rattle.spu_asm.proofs.symbols.Table+SymbolDraft.mention_values.Goals as goal
 

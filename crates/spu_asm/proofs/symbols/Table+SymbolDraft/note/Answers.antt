@@ -1,7 +1,6 @@
 use Rattle.std.proofs.Common.{ap, ◌∙◌}
 use Rattle.indexmap.proofs.MapLemmas.{OnOk-map}
-use Rattle.spu_asm.specs.Tables.{rows, with_values}
-use Rattle.spu_asm.specs.Cursors.{sighting_of}
+use Rattle.spu_asm.specs.Kept.{rows, with_values, sighting_of}
 use Rattle.spu_asm.proofs.TableLemmas.{put_with}
 use Rattle.spu_asm.proofs.symbols.Table+SymbolDraft.note.Goals as goal
 

@@ -1,6 +1,6 @@
 use Rattle.indexmap.proofs.MapLemmas.{OnOk-map}
-use Rattle.spu_asm.specs.Summaries.{Sighting}
-use Rattle.spu_asm.specs.Cursors.{sightings}
+use Rattle.spu_asm.specs.Histories.{Sighting}
+use Rattle.spu_asm.specs.Kept.{sightings}
 use Rattle.spu_asm.proofs.SymbolLemmas.{told_noted}
 use Rattle.spu_asm.proofs.symbols.Table+SymbolDraft.set_size.Goals as goal
 

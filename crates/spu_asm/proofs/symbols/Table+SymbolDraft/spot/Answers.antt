@@ -1,8 +1,7 @@
 use Rattle.std.proofs.Common.{ap, sym, ◌∙◌}
 use Rattle.std.specs.Prelude.{option_map, option_and_then}
-use Rattle.spu_asm.specs.Tables.{rows}
-use Rattle.spu_asm.specs.Summaries.{Sighting}
-use Rattle.spu_asm.specs.Cursors.{sighting_of}
+use Rattle.spu_asm.specs.Kept.{rows, sighting_of}
+use Rattle.spu_asm.specs.Histories.{Sighting}
 use Rattle.spu_asm.proofs.TableLemmas.{value_with}
 use Rattle.spu_asm.proofs.symbols.Table+SymbolDraft.spot.Goals as goal
 

@@ -1,8 +1,7 @@
 use Rattle.std.proofs.Common.{ap, sym, ◌∙◌}
 use Rattle.std.specs.Prelude.{Option, option_map, unwrap_or}
-use Rattle.spu_asm.specs.Tables.{rows}
-use Rattle.spu_asm.specs.Summaries.{Sighting, unseen}
-use Rattle.spu_asm.specs.Cursors.{sighting_of}
+use Rattle.spu_asm.specs.Kept.{rows, sighting_of}
+use Rattle.spu_asm.specs.Histories.{Sighting, unseen}
 use Rattle.spu_asm.proofs.TableLemmas.{value_with}
 use Rattle.spu_asm.proofs.symbols.Table+SymbolDraft.state.Goals as goal
 
