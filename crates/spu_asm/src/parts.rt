@@ -25,7 +25,6 @@ fn place_of(mark: u8, pieces: &[Piece]) -> Option<usize>
 }
 
 /// The pieces before the first mark of this sort, and those behind it where there is one.
-#[tactic(auto, using(crate::proofs::PartLemmas::cut_at, crate::proofs::PartLemmas::never_cut))]
 pub fn first_part<'p, 'a>(
     mark: u8,
     pieces: &'p [Piece<'a>],
