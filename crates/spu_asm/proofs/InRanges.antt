@@ -29,7 +29,7 @@ use Rattle.spu_asm.specs.declared.slots.Slot.TheVariants as slot
 use Rattle.spu_asm.specs.declared.values.Offset.{Offset}
 use Rattle.spu_asm.specs.declared.operands.Coded.{Coded as CodeCoded}
 use Rattle.spu_asm.specs.Names.{Name, number_below_128, is_decimal, register_of, channel_of, without_suffix, Value, plain, here, symbol, value_of, natural}
-use Rattle.spu_asm.specs.Operands.{bounds_of, is_field, slots_of, is_optional, left, scaled, quotient, signed_number, addend_of, place_field, Given, bad, far, register, immediate, nine_bits, place_symbol, target, suffix_of, refers, in_range, below_128, value_given, base_given, given, all_given, Coded, with_field, Reading, read, blank, coded}
+use Rattle.spu_asm.specs.Operands.{bounds_of, is_field, slots_of, is_optional, left, scaled, quotient, signed_number, addend_of, place_field, Given, bad, far, register, immediate, nine_bits, place_symbol, target, suffix_of, refers, in_range, value_given, base_given, given, all_given, Coded, with_field, read, blank, coded}
 use Rattle.spu_asm.specs.Kept.{coded_in, reading_in}
 use Rattle.spu_reloc.specs.Fields.{kind_on}
 
@@ -211,6 +211,9 @@ field_op field.Rc n x = refl
 
 with_hint : (rs : List Register) (high low : ℕ) (x : Inst) → is_absent field.Rt rs ≡ true → is_absent field.Rb rs ≡ true → AreZero rs x → AreZero rs (record x { rb = high; rt = low })
 with_hint rs high low x t b h = zeros_keep field.Rt rs low (with_field field.Rb high x) t (zeros_keep field.Rb rs high x b h)
+
+abbrev Reading : Type 0
+Reading = Result Coded AsmKind
 
 abbrev InReading : Op → Reading → Type 0
 InReading o (Ok c) = IsIn o c.inst
@@ -400,6 +403,9 @@ channel_small w n e = by_tests false false (bytes_eq (take 3 w) (codes "$ch")) (
 named_gives : (o : Op) (f : Field) (x : Option ℕ) → takes (row_of o) f ≡ true → ((n : ℕ) → x ≡ Some n → n < 128) → GivesField o (or_bad (register f) x)
 named_gives o f None t h = tt
 named_gives o f (Some n) t h = (h n refl, t)
+
+abbrev below_128 : Field → ℕ → Given
+below_128 f n = if nat_lt n 128 then register f n else far
 
 below_gives : (o : Op) (f : Field) (n : ℕ) → takes (row_of o) f ≡ true → GivesField o (below_128 f n)
 below_gives o f n t = elim (cases_Bool (nat_lt n 128)) [

@@ -1,5 +1,5 @@
 -- Operands are read one by one.
-use Rattle.std.proofs.Common.{◌≡◌, ℕ, ◌<◌, true, arith, length, List, [], ◌∷◌, ◌++◌, Option, Some, None, Ok, Err, refl, sym}
+use Rattle.std.proofs.Common.{◌≡◌, ℕ, ◌<◌, true, arith, length, List, [], ◌∷◌, ◌++◌, Option, Some, None, Result, Ok, Err, refl, sym}
 use Rattle.std.specs.Prelude.{fold, map, option_map}
 use Rattle.std.specs.Borrow.{Bor}
 use Rattle.std.specs.Option.{option_to_list}
@@ -11,6 +11,7 @@ use Rattle.spu_reloc.specs.declared.field.RelocKind.TheVariants.{Addr16, Addr16H
 use Rattle.std.specs.List.{AllByRecursion}
 use Rattle.spu_reloc.specs.Fields.{kind_on, fits_on, number_of}
 use Rattle.spu_reloc.proofs.Patches.{one_kind}
+use Rattle.spu_asm.specs.declared.faults.AsmKind.{AsmKind}
 use Rattle.spu_asm.specs.declared.faults.AsmKind.TheVariants as asm
 use Rattle.spu_asm.specs.declared.slots.Slot.{Slot}
 use Rattle.spu_asm.specs.declared.slots.Slot.TheVariants as slot
@@ -18,11 +19,11 @@ use Rattle.spu_asm.specs.declared.operands.Target.{Target as CodeTarget}
 use Rattle.spu_asm.specs.declared.operands.Coded.{Coded as CodeCoded}
 use Rattle.spu_asm.specs.Names.{Name, parted}
 use Rattle.spu_asm.specs.Kept.{lexemes, parts_left, instruction_of, target_in, coded_in}
-use Rattle.spu_asm.specs.Operands.{word_of, Given, bad, Target, Reading, value_given, read, all_given, coded}
+use Rattle.spu_asm.specs.Operands.{word_of, Given, bad, Target, Coded, value_given, read, all_given, coded}
 use Rattle.spu_asm.specs.Statements.{Relocation, relocations_by, common_by, instructed}
 use Rattle.spu_asm.proofs.PartLemmas.{has_part}
 
-pub fold_twice : (r : Reading) (xs ys : List Given) → fold read r (xs ++ ys) ≡ fold read (fold read r xs) ys
+pub fold_twice : (r : Result Coded AsmKind) (xs ys : List Given) → fold read r (xs ++ ys) ≡ fold read (fold read r xs) ys
 fold_twice r [] ys = refl
 fold_twice r (x ∷ xs) ys = fold_twice (read r x) xs ys
 
@@ -51,7 +52,7 @@ pub kind_none : (o : Op) → ((k : RelocKind) → fits_on k o ≡ true → ⊥) 
 kind_none o h = by_kind o (kind_on o) refl h
 
 -- more operands than slots
-pub read_extra : (o : Op) (ss : List Slot) (ps : Bor (List Piece)) (r s : Reading) → length ss < 1 → s ≡ read r bad → s ≡ fold read r (all_given o ss (parts_left 44 (Some ps)))
+pub read_extra : (o : Op) (ss : List Slot) (ps : Bor (List Piece)) (r s : Result Coded AsmKind) → length ss < 1 → s ≡ read r bad → s ≡ fold read r (all_given o ss (parts_left 44 (Some ps)))
 read_extra o [] ps r s h e = let part = has_part 44 (lexemes ps.now) in rw part.is e
 read_extra o (x ∷ ss) ps r s h e = absurd (omega arith)
 

@@ -37,7 +37,7 @@ use Rattle.spu_asm.specs.declared.progress.Progress.{Progress}
 use Rattle.spu_asm.specs.declared.progress.Outcome.{Outcome}
 use Rattle.spu_asm.specs.declared.progress.Outcome.TheVariants as outcomes
 use Rattle.spu_asm.specs.Names.{Name, is_symbol, Value, plain, here, symbol, parted}
-use Rattle.spu_asm.specs.Operands.{Target, Coded, Reading, Given, bad, far, register, immediate, nine_bits, place_symbol, target}
+use Rattle.spu_asm.specs.Operands.{Target, Coded, Given, bad, far, register, immediate, nine_bits, place_symbol, target}
 use Rattle.spu_asm.specs.Statements.{Stmt, nothing, instruction, relocations_by, Meaning, Effect, moved, content, Relocation, space, align, may_be_common, common, section, exports, has_kind, ends_here, has_size, joined}
 use Rattle.spu_asm.specs.Histories.{same, is_among, added, added_all, Heading, stored, gap, filling, added_bytes, Spot, History, Rows, Draft, Sighting, Summary, unseen, sighting_in, summary, enter}
 use Rattle.spu_asm.specs.Assembly.{Fault, Run, first_fault, object_of}
@@ -71,7 +71,7 @@ given_in (code.Target t) = target (target_in t)
 abbrev pub coded_in : CodeCoded → Coded
 coded_in c = record { inst = c.inst; place = option_map (λ (w : Bor (List ℕ)). w.now) c.place; target = option_map target_in c.target }
 
-abbrev pub reading_in : Result CodeCoded AsmKind → Reading
+abbrev pub reading_in : Result CodeCoded AsmKind → Result Coded AsmKind
 reading_in r = result_map_both coded_in (λ (k : AsmKind). k) r
 
 -- the symbols in an instruction's operands

@@ -169,11 +169,8 @@ abbrev pub in_range : Range → Offset → Given
 in_range b n = option_map_or immediate (signed_number b n) far
 
 -- a number from 0 to 127
-abbrev pub below_128 : Field → ℕ → Given
-below_128 f n = if nat_lt n 128 then register f n else far
-
 abbrev pub small_given : Field → Offset → Given
-small_given f n = option_map_or (below_128 f) (natural n) far
+small_given f n = option_map_or (λ (k : ℕ). if nat_lt k 128 then register f k else far) (natural n) far
 
 -- what a value gives: a number, `.` and a distance, or a symbol; the addend of a hint's place has no effect
 abbrev pub value_given : Op → Slot → Option Value → Given
@@ -221,11 +218,8 @@ with_field field.Ra n x = record x { ra = n }
 with_field field.Rb n x = record x { rb = n }
 with_field field.Rc n x = record x { rc = n }
 
-abbrev pub Reading : Type 0
-Reading = Result Coded AsmKind
-
 -- a number outside its range is noted, and reading goes on
-abbrev pub read : Reading → Given → Reading
+abbrev pub read : Result Coded AsmKind → Given → Result Coded AsmKind
 read r bad = Err asm.BadOperand
 read (Err k) g = Err k
 read (Ok c) far = Err asm.Range
@@ -239,7 +233,7 @@ abbrev pub blank : Op → Coded
 blank o = record { inst = record { op = o; rt = 0; ra = 0; rb = 0; rc = 0; imm = pos 0 }; place = None; target = None }
 
 -- the instruction that an operation and its operands are, or A5 or A6
-abbrev pub coded : Op → List (List Lexeme) → Reading
+abbrev pub coded : Op → List (List Lexeme) → Result Coded AsmKind
 coded o os = fold read (Ok (blank o)) (all_given o (left (is_optional o) (slots_of o) (length os)) os)
 
 -- ---- the word of an instruction: its opcode and its fields, by its layout (SPU ISA 1.2, "Instruction formats")

@@ -22,7 +22,7 @@ use Rattle.spu_asm.specs.declared.values.Offset.{Offset}
 use Rattle.spu_asm.specs.declared.directives.Directive.{Directive}
 use Rattle.spu_asm.specs.declared.directives.Directive.TheVariants as directive
 use Rattle.spu_asm.specs.Names.{Name, Value, plain, symbol, value_of, parted, is_symbol, natural_of, operands_of}
-use Rattle.spu_asm.specs.Operands.{Target, addend_of, word_of, Coded, Reading, coded}
+use Rattle.spu_asm.specs.Operands.{Target, addend_of, word_of, Coded, coded}
 
 -- A relocation that a statement makes: where its word begins among the statement's bytes, its number in the SPU ABI, the
 -- symbol and the addend.
@@ -81,15 +81,7 @@ is_octal b = nat_le 48 b && nat_le b 55
 
 -- the byte that one character behind `\` stands for
 unfoldable pub letter_of : ℕ → Option ℕ
-letter_of c =
-    if c == 110 then Some 10
-    else (if c == 116 then Some 9
-    else (if c == 114 then Some 13
-    else (if c == 98 then Some 8
-    else (if c == 102 then Some 12
-    else (if c == 92 then Some 92
-    else (if c == 34 then Some 34
-    else None))))))
+letter_of c = option_map (λ (l : ℕ × ℕ). l.1) (find (λ (l : ℕ × ℕ). c == l.0) ((110, 10) ∷ (116, 9) ∷ (114, 13) ∷ (98, 8) ∷ (102, 12) ∷ (92, 92) ∷ (34, 34) ∷ []))
 
 -- how many octal digits stand in front, three at most
 abbrev pub octal_len : List ℕ → ℕ
@@ -297,12 +289,8 @@ behind_labels ts = ts
 
 -- ---- what stands behind them; of its faults the least counts: A4 UnknownMnemonic, A5 BadOperand, A6 Range, A8 BadDirective
 
--- the symbols in the operands
-abbrev pub names_of : Coded → List Name
-names_of c = option_to_list c.place ++ map (λ (t : Target). t.name) (option_to_list c.target)
-
-abbrev pub instructed : Op → Reading → Meaning
-instructed o (Ok c) = Ok (instruction (word_of c.inst) (names_of c) (relocations_by (kind_on o) c.target))
+abbrev pub instructed : Op → Result Coded AsmKind → Meaning
+instructed o (Ok c) = Ok (instruction (word_of c.inst) (option_to_list c.place ++ map (λ (t : Target). t.name) (option_to_list c.target)) (relocations_by (kind_on o) c.target))
 instructed o (Err k) = Err k
 
 unfoldable pub op_of : Name → Option Op
