@@ -1,9 +1,13 @@
 -- What the code that makes an image has so far: the words of code sections, filled in function by function; the bytes of data, section
 -- by section; and the symbols. No clause of a public call cites these.
 use Rattle.std.specs.Prelude.{◌≡◌, ℕ, suc, ◌+◌, ◌-◌, ◌*◌, ◌/◌, ◌%◌, ◌<◌, ◌≤◌, ◌⊎◌, if◌then◌else◌, not, Bool, true, false, List, [], ◌∷◌, ◌++◌, length, map, replicate, codes, Option, Some, None, slice_get, slice_index, slice_index_or}
-use Rattle.std.specs.List.{range_with_len}
+use Rattle.std.specs.List.{All, range_with_len}
 use Rattle.std.specs.Str.{bytes_eq}
-use Rattle.spu_word.specs.declared.limits.TheConstants.{DATA_START, QUAD_SIZE, STACK_TOP, STORE_SIZE, WORD_SIZE}
+use Rattle.std.specs.HashSet.{contains_by}
+use Rattle.spu_word.specs.declared.limits.TheConstants.{DATA_START, MAX_NAME_SIZE, STORE_SIZE, WORD_SIZE}
+use Rattle.spu_elf.specs.Lengths.{ended_len}
+use Rattle.spu_elf.specs.Rows.{begins, segment_name}
+use Rattle.spu_elf.specs.declared.constants.TheConstants.{MAX_SEGMENTS}
 use Rattle.spu_elf.specs.declared.executables.Segment.{Segment}
 use Rattle.spu_elf.specs.declared.executables.Exec.{Exec}
 use Rattle.spu_elf.specs.declared.objects.Symbol.{Symbol}
@@ -22,16 +26,21 @@ use Rattle.spu_lift.specs.WellFormed.{IsWellFormed, AreInOrder}
 use Rattle.spu_ideal.specs.Machine.{data_byte, labelled}
 use Rattle.spu_plan.specs.declared.plan.Plan.{Plan}
 use Rattle.spu_plan.specs.Plans.{rounded}
-use Rattle.spu_plan.specs.Choices.{IsInput}
-use Rattle.spu_plan.specs.declared.input.PlanInput.{PlanInput}
-use Rattle.spu_plan.specs.declared.input.Mode.TheVariants.{Never}
 use Rattle.spu_layout.specs.declared.layout.Layout as held
 use Rattle.spu_layout.specs.Layouts.{Layout}
-use Rattle.spu_layout.specs.Placing.{layout_of, sizes_of}
-use Rattle.spu_layout.specs.Planned.{Fits}
+use Rattle.spu_layout.specs.Placing.{layout_of}
+use Rattle.spu_layout.specs.Planned.{Fits, IsPlanned}
 use Rattle.spu_layout.specs.Views.{function_count, layout_in}
+use Rattle.spu_image.specs.declared.planning.NameSet.{NameSet}
 use Rattle.spu_image.specs.Words.{IsWord}
 use Rattle.spu_image.specs.Images.{Holds, byte_of}
+
+-- a program and its layout in the code, by a plan that is made for it
+pub record IsLaidOutBy (p : Prog) (plan : Plan) (limit : ℕ) (layout : held.Layout) : Type 0 where
+  pub well : IsWellFormed p
+  pub planned : IsPlanned p plan limit
+  pub is : layout_in layout ≡ layout_of p plan limit
+  pub functions : function_count layout ≡ length p.functions
 
 -- a program and its layout in the code, by a plan with which it fits
 pub record IsLaidOut (p : Prog) (layout : held.Layout) : Type 0 where
@@ -117,26 +126,24 @@ told_in needs f = told_by (slice_get needs f)
 
 -- ---- plans
 
--- the plan is asked for this program, for a stack of this size, without overlays
-pub record IsFlatInput (p : Prog) (limit : ℕ) (input : PlanInput) : Type 0 where
-  pub allowed : IsInput input
-  pub sizes : input.sizes ≡ sizes_of p
-  pub data_end : input.data_end ≡ p.data_end
-  pub room : input.room ≡ STACK_TOP - limit
-  pub mode : input.mode ≡ Never
+-- whether a set has a name
+abbrev pub has_name : NameSet → List ℕ → Bool
+has_name set name = contains_by (λ k. bytes_eq name k.now) set.names
 
 -- ---- files
 
--- the executable has one segment, of whole quadwords in the local store
-pub record HasOneSegment (x : Exec) : Type 0 where
-  pub segment : Segment
-  pub only : x.segments ≡ segment ∷ []
-  pub quads : length segment.bytes % QUAD_SIZE ≡ 0
-  pub small : length segment.bytes ≤ STORE_SIZE
+-- an executable has few segments, each in the local store, and few symbols, whose names aren't too long
+pub record IsSmall (x : Exec) : Type 0 where
+  pub few_segments : length x.segments ≤ MAX_SEGMENTS
+  pub small : All (λ (s : Segment). length s.bytes ≤ STORE_SIZE) x.segments
+  pub few_symbols : length x.symbols ≤ 2 ^ 26
+  pub short : All (λ (s : Symbol). length s.name ≤ MAX_NAME_SIZE) x.symbols
 
-abbrev pub first_size : List Segment → ℕ
-first_size [] = 0
-first_size (s ∷ ss) = length s.bytes
+-- where the segments end of a file, from number k on, and how long their names are, each with a zero behind it, if so far they are these
+abbrev pub segments_end : ℕ → List Segment → ℕ
+segments_end at [] = at
+segments_end at (s ∷ ss) = segments_end (begins at + length s.bytes) ss
 
-abbrev pub segment_size : Exec → ℕ
-segment_size x = first_size x.segments
+abbrev pub segment_names : ℕ → List Segment → ℕ
+segment_names k [] = 0
+segment_names k (s ∷ ss) = ended_len (length (segment_name k)) + segment_names (k + 1) ss

@@ -1,5 +1,5 @@
--- What the link of a judged program answers: its flat image, or why there is none. (No standard has it: the order of an image's parts
--- and the limits of files are this project's own.)
+-- What the link of a judged program answers: its image by a plan, flat or with overlays, or why there is none. (No standard has it: the
+-- order of an image's parts and the limits of files are this project's own.)
 use Rattle.std.specs.Prelude.{◌≡◌, ℕ, ◌-◌, ◌<◌, Bool, true, false, length, Option, Some}
 use Rattle.spu_word.specs.declared.limits.TheConstants.{MAX_FILE_SIZE, STACK_TOP}
 use Rattle.spu_elf.specs.declared.executables.Exec.{Exec}
@@ -10,14 +10,17 @@ use Rattle.spu_frame.specs.Found.{frame_at}
 use Rattle.spu_graph.specs.Known.{need_of}
 use Rattle.spu_judge.specs.declared.outcome.Judged.{Judged}
 use Rattle.spu_plan.specs.declared.plan.Plan.{Plan}
-use Rattle.spu_plan.specs.Plans.{flat_end}
-use Rattle.spu_layout.specs.Placing.{FitsFlat, layout_of, sizes_of}
+use Rattle.spu_plan.specs.Choices.{IsPlan, IsTooLarge}
+use Rattle.spu_layout.specs.Placing.{layout_of}
 use Rattle.spu_layout.specs.Views.{function_count, layout_in}
 use Rattle.spu_image.specs.Images.{IsFlatExec, untold}
+use Rattle.spu_image.specs.Overlays.{IsOverlayExec}
 use Rattle.spu_image.specs.Headline.{Headline}
+use Rattle.spu_image.specs.Planning.{plan_input}
 use Rattle.spu_image.specs.declared.outcome.Linked.{Linked}
 use Rattle.spu_image.specs.declared.outcome.LinkFault.{LinkFault}
 use Rattle.spu_image.specs.declared.outcome.LinkFault.TheVariants as faults
+use Rattle.spu_image.specs.declared.outcome.LinkOptions.{LinkOptions}
 
 -- the needs that stack symbols tell: all that are known, if they are asked for
 abbrev pub told_of : Bool → (ℕ → Option ℕ) → ℕ → Option ℕ
@@ -28,42 +31,45 @@ told_of false needs = untold
 abbrev pub judged_in : Linked → Judged
 judged_in l = record { prog = l.prog; depths = l.depths; needs = l.needs }
 
--- a flat plan with which the program fits, its layout, its executable and that one's file, and what a run of the executable promises
--- within the need of the entry
-pub record IsImage (limit : ℕ) (stack_syms : Bool) (l : Linked) : Type 0 where
-  pub fits : FitsFlat l.prog l.plan limit
-  pub layout : layout_in l.layout ≡ layout_of l.prog l.plan limit
+-- the executable of a program by a plan
+pub record IsExec (p : Prog) (plan : Plan) (limit : ℕ) (told : ℕ → Option ℕ) (x : Exec) : Type 0 where
+  pub flat : plan.overlay ≡ false → IsFlatExec p (layout_of p plan limit) limit told x
+  pub overlays : plan.overlay ≡ true → IsOverlayExec p plan (layout_of p plan limit) limit told x
+
+-- the plan of the program, its layout, its executable and that one's file, and what a run of the executable promises within the need of
+-- the entry
+pub record IsImage (o : LinkOptions) (l : Linked) : Type 0 where
+  pub plan : IsPlan (plan_input l.prog o) l.plan
+  pub layout : layout_in l.layout ≡ layout_of l.prog l.plan o.limit
   pub functions : function_count l.layout ≡ length l.prog.functions
-  pub image : IsFlatExec l.prog (layout_of l.prog l.plan limit) limit (told_of stack_syms (need_of l.needs)) l.exec
+  pub image : IsExec l.prog l.plan o.limit (told_of o.stack_syms (need_of l.needs)) l.exec
   pub valid : IsValidExec l.exec
   pub file : l.file ≡ spell_exec l.exec
   pub need : ℕ
   pub entry : need_of l.needs l.prog.entry ≡ Some need
-  pub headline : Headline l.prog (layout_of l.prog l.plan limit) (frame_at l.depths) limit need l.exec l.file
+  pub headline : l.plan.overlay ≡ false → Headline l.prog (layout_of l.prog l.plan o.limit) (frame_at l.depths) o.limit need l.exec l.file
 
--- L20: the flat image doesn't end below the stack
-pub record IsTooLarge (p : Prog) (limit least room : ℕ) : Type 0 where
-  pub end : least ≡ flat_end p.data_end (sizes_of p)
-  pub below : room ≡ STACK_TOP - limit
-  pub over : room < least
+-- L20: no image that the mode permits ends below the stack
+abbrev pub IsPlanTooLarge : Prog → LinkOptions → ℕ → ℕ → Type 0
+IsPlanTooLarge p o least room = IsTooLarge (plan_input p o) least × (room ≡ STACK_TOP - o.limit)
 
--- L21: the flat image fits, and its file has more bytes than a file may have
-pub record IsFileTooLarge (p : Prog) (limit : ℕ) (told : ℕ → Option ℕ) (size : ℕ) : Type 0 where
+-- L21: there is a plan, and the file of its executable has more bytes than a file may have
+pub record IsFileTooLarge (p : Prog) (o : LinkOptions) (told : ℕ → Option ℕ) (size : ℕ) : Type 0 where
   pub plan : Plan
-  pub fits : FitsFlat p plan limit
+  pub planned : IsPlan (plan_input p o) plan
   pub exec : Exec
-  pub image : IsFlatExec p (layout_of p plan limit) limit told exec
+  pub image : IsExec p plan o.limit told exec
   pub is : size ≡ length (spell_exec exec)
   pub over : MAX_FILE_SIZE < size
 
 -- a judged program has no image for one of two reasons, which want of memory may hide
-abbrev pub IsPlanRefused : Prog → ℕ → LinkFault → Type 0
-IsPlanRefused p limit (faults.TooLarge least room) = IsTooLarge p limit least room
-IsPlanRefused p limit faults.OutOfMemory = Unit {0}
-IsPlanRefused p limit _ = ⊥
+abbrev pub IsPlanRefused : Prog → LinkOptions → LinkFault → Type 0
+IsPlanRefused p o (faults.TooLarge least room) = IsPlanTooLarge p o least room
+IsPlanRefused p o faults.OutOfMemory = Unit {0}
+IsPlanRefused p o _ = ⊥
 
-abbrev pub IsImageRefused : Judged → ℕ → Bool → LinkFault → Type 0
-IsImageRefused j limit stack_syms (faults.TooLarge least room) = IsTooLarge j.prog limit least room
-IsImageRefused j limit stack_syms (faults.FileTooLarge size) = IsFileTooLarge j.prog limit (told_of stack_syms (need_of j.needs)) size
-IsImageRefused j limit stack_syms faults.OutOfMemory = Unit {0}
-IsImageRefused j limit stack_syms _ = ⊥
+abbrev pub IsImageRefused : Judged → LinkOptions → LinkFault → Type 0
+IsImageRefused j o (faults.TooLarge least room) = IsPlanTooLarge j.prog o least room
+IsImageRefused j o (faults.FileTooLarge size) = IsFileTooLarge j.prog o (told_of o.stack_syms (need_of j.needs)) size
+IsImageRefused j o faults.OutOfMemory = Unit {0}
+IsImageRefused j o _ = ⊥

@@ -6,6 +6,7 @@ pub mod Headline
 pub mod Filling
 pub mod Overlays
 pub mod OverlayFilling
+pub mod Planning
 pub mod Linking
 pub mod JudgedLinking
 pub mod Samples

@@ -1,4 +1,4 @@
--- What the link of objects answers: the flat image of the program that they stand for, or the fault with the least number, at its first
+-- What the link of objects answers: the image of the program that they stand for, or the fault with the least number, at its first
 -- place. (The rules of programs, stacks and images are this project's own.)
 use Rattle.std.specs.Prelude.{ℕ, List}
 use Rattle.spu_elf.specs.declared.objects.Object.{Object}
@@ -11,7 +11,7 @@ use Rattle.spu_image.specs.declared.outcome.Linked.{Linked}
 use Rattle.spu_image.specs.declared.outcome.LinkFault.{LinkFault}
 use Rattle.spu_image.specs.declared.outcome.LinkFault.TheVariants as faults
 use Rattle.spu_image.specs.declared.outcome.LinkOptions.{LinkOptions}
-use Rattle.spu_image.specs.JudgedLinking.{IsFileTooLarge, IsImage, IsTooLarge, judged_in, told_of}
+use Rattle.spu_image.specs.JudgedLinking.{IsFileTooLarge, IsImage, IsPlanTooLarge, judged_in, told_of}
 
 -- ---- a judgement of objects
 
@@ -40,7 +40,7 @@ IsJudgeFault objects entry limit faults.OutOfMemory = Unit {0}
 
 pub record IsLinked (objects : List Object) (o : LinkOptions) (l : Linked) : Type 0 where
   pub judged : IsJudgedFrom objects o.entry o.limit (judged_in l)
-  pub image : IsImage o.limit o.stack_syms l
+  pub image : IsImage o l
 
 -- the objects are judged, and of the judgement this holds
 pub record IsOfJudgement (objects : List Object) (o : LinkOptions) (P : Judged → Type 0) : Type 0 where
@@ -50,7 +50,6 @@ pub record IsOfJudgement (objects : List Object) (o : LinkOptions) (P : Judged �
 
 -- L1 to L19, or, of what is judged, L20 or L21
 abbrev pub IsLinkFault : List Object → LinkOptions → LinkFault → Type 0
-IsLinkFault objects o (faults.TooLarge least room) = IsOfJudgement objects o (λ j. IsTooLarge j.prog o.limit least room)
-IsLinkFault objects o (faults.FileTooLarge size) =
-    IsOfJudgement objects o (λ j. IsFileTooLarge j.prog o.limit (told_of o.stack_syms (need_of j.needs)) size)
+IsLinkFault objects o (faults.TooLarge least room) = IsOfJudgement objects o (λ j. IsPlanTooLarge j.prog o least room)
+IsLinkFault objects o (faults.FileTooLarge size) = IsOfJudgement objects o (λ j. IsFileTooLarge j.prog o (told_of o.stack_syms (need_of j.needs)) size)
 IsLinkFault objects o fault = IsJudgeFault objects o.entry o.limit fault

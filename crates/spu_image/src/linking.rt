@@ -1,12 +1,13 @@
 //! Judgements and links of objects.
 
-ghost use Rattle.std.specs.Prelude.{◌≤◌, ℕ, List, length, All, IfErr, IfOk};
+ghost use Rattle.std.specs.Prelude.{◌≤◌, ℕ, List, length, All, Contains, IfErr, IfOk};
 ghost use Rattle.spu_word.specs.declared.limits.TheConstants.{MAX_OBJECTS, MAX_STACK_LIMIT};
 ghost use Rattle.spu_elf.specs.declared.objects.Object.{Object};
 ghost use Rattle.spu_elf.specs.WellFormed.{IsWellFormed};
 ghost use Rattle.spu_lift.specs.LiftFaults.{IsRefused as IsLiftRefused, Lifted};
 ghost use Rattle.spu_lift.specs.declared.program.Prog.{Prog};
 ghost use Rattle.spu_judge.specs.Answers.{IsRefused};
+ghost use Rattle.spu_plan.specs.declared.constants.TheConstants.{BUFFER_COUNTS, BUFFER_SIZES};
 ghost use Rattle.spu_image.specs.Linking.{IsJudgedFrom, IsJudgeFault, IsLinked, IsLinkFault};
 
 use crate::judged_linking::link_judged;
@@ -87,8 +88,8 @@ pub fn judge(
 }
 
 #[tactic(auto, using(crate::proofs::LinkAnswers::few_globals, crate::proofs::LinkAnswers::linked_if))]
-/// Links objects to a flat executable whose entry function, stack and symbols the options give. A run of it is the run of
-/// the program that the objects stand for.
+/// Links objects to an executable, flat or with overlays, whose entry function, stack, regions and symbols the options give. A
+/// run of it is the run of the program that the objects stand for.
 ///
 /// Each of L1 to L21 comes exactly where it is the least that holds, at its first place.
 pub fn link(
@@ -99,9 +100,11 @@ pub fn link(
     requires few { length objects.now ≤ MAX_OBJECTS }
     requires formed { All IsWellFormed objects.now }
     requires limit { options.now.limit ≤ MAX_STACK_LIMIT }
+    requires buffers { Contains BUFFER_COUNTS options.now.buffers }
+    requires largest { Contains BUFFER_SIZES options.now.largest }
     ensures linked { IfOk result (IsLinked objects.now options.now) }
     ensures fault { IfErr result (IsLinkFault objects.now options.now) }
 {
     let judged = judge(alloc, objects, options.entry.as_slice(), options.limit)?;
-    link_judged(alloc, judged, options.limit, options.stack_syms)
+    link_judged(alloc, judged, options)
 }

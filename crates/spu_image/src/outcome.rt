@@ -8,7 +8,7 @@ use spu_graph::Needs;
 use spu_judge::JudgeFault;
 use spu_layout::Layout;
 use spu_lift::{LiftFault, Prog};
-use spu_plan::Plan;
+use spu_plan::{Mode, Plan};
 use spu_word::{Bytes, Name, OutOfMemory, Seq};
 
 /// What a link is asked for.
@@ -18,8 +18,16 @@ pub struct LinkOptions {
     pub entry: Name,
     /// How many bytes the stack has, a multiple of 16 and at most 261,984.
     pub limit: u32,
+    /// Whether the image has overlays.
+    pub mode: Mode,
+    /// The names of sections of code that stay in the root of an overlay image, besides that of the entry.
+    pub rooted: Seq<Name>,
     /// Whether the image has a symbol for what each function needs of the stack.
     pub stack_syms: bool,
+    /// How many buffers an overlay image has: 1, 2, 4 or 8.
+    pub buffers: u32,
+    /// The greatest size of a buffer, in bytes: a power of two from 1,024 to 65,536.
+    pub largest: u32,
 }
 
 /// What a link gives: the executable and its file, and what both come from.

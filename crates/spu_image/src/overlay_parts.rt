@@ -2,16 +2,15 @@
 
 ghost use Rattle.std.specs.Prelude.{◌≡◌, ◌+◌, ◌*◌, ◌^◌, ◌<◌, ◌≤◌, ◌++◌, [], ℕ, drop, length, replicate, slice_index, IfOk, OnOk};
 ghost use Rattle.spu_word.specs.declared.limits.TheConstants.{STORE_SIZE};
-ghost use Rattle.spu_elf.specs.Rows.{begins};
 ghost use Rattle.spu_layout.specs.Placing.{buffers_start};
 ghost use Rattle.spu_layout.specs.Views.{layout_in};
 ghost use Rattle.spu_image.specs.Filling.{IsLaidOut};
 ghost use Rattle.spu_image.specs.Overlays.{stub_codes, table};
 ghost use Rattle.spu_image.specs.OverlayFilling.{Adds, AreRegionBytes, AreRegions, HasStubs, constants, offset_of};
 
+use crate::lengths::begins;
 use crate::segments::put_words;
-use spu_elf::constants::{EHDR_SIZE, PHDR_SIZE, SEGMENT_ALIGN};
-use spu_elf::spelling::gap;
+use spu_elf::constants::{EHDR_SIZE, PHDR_SIZE};
 use spu_layout::Layout;
 use spu_lift::{Label, Prog};
 use spu_loader::stub_words;
@@ -76,14 +75,6 @@ pub fn put_constants(out: &mut Bytes, buffers: u32, return_entry: u32) -> Result
     let back = MAX_TRANSFER_SIZE.wrapping_neg();
     put_words(out, &[MAX_TRANSFER_SIZE, back, MAX_TRANSFER_SIZE, 0])?;
     Ok(())
-}
-
-/// Where the file has a segment, when the bytes before it end there.
-fn begins(at: usize) -> usize
-    requires { at < 2 ^ 63 }
-    ensures { result ≡ begins at }
-{
-    at + gap(SEGMENT_ALIGN, at)
 }
 
 /// Adds the table: the entry of the root, which is zero, those of the regions, which have these bytes and stand in the file behind
