@@ -4,6 +4,7 @@ use Rattle.std.proofs.lemmas.List.{at_drop_more, at_drop_all}
 use Rattle.spu_elf.specs.declared.writing.lengths.Extent.{Extent}
 use Rattle.spu_elf.specs.declared.executables.Segment.{Segment}
 use Rattle.spu_elf.specs.declared.executables.Exec.{Exec}
+use Rattle.spu_elf.specs.declared.objects.Symbol.{Symbol}
 use Rattle.spu_elf.specs.Rows.{begins, front_size, padding, segment_name}
 use Rattle.spu_elf.specs.Lengths.{blank_extent, ended_len, grown, segments_grown, strings_len, tables_grown, whole_len}
 use Rattle.spu_elf.specs.Spelling.{spell_exec}
@@ -44,8 +45,12 @@ tables_are file heads names symbols strings =
     rounds : (m : ℕ) → m + padding 4 m ≡ (m + 3) / 4 * 4
     rounds m = omega arith
 
+-- where the segments end there, with names of segments and symbols that take so many bytes, and so many symbols and segments
+abbrev pub file_size : ℕ → ℕ → ℕ → ℕ → ℕ → ℕ
+file_size end names strings symbols segments = ((end + 3) / 4 * 4 + 16 * (1 + symbols) + (strings + names + 27) + 3) / 4 * 4 + 40 * (4 + segments)
+
 pub file_length : (x : Exec) → length (spell_exec x)
-    ≡ ((segments_end (front_size (length x.segments)) x.segments + 3) / 4 * 4 + 16 * (1 + length x.symbols) + (strings_len x.symbols + segment_names 0 x.segments + 27) + 3) / 4 * 4 + 40 * (4 + length x.segments)
+    ≡ file_size (segments_end (front_size (length x.segments)) x.segments) (segment_names 0 x.segments) (strings_len x.symbols) (length x.symbols) (length x.segments)
 file_length x =
     let end : ℕ = segments_end (front_size (length x.segments)) x.segments in
     let names : ℕ = segment_names 0 x.segments in
@@ -106,9 +111,12 @@ length_alike x y same symbols =
     let count = count_alike x.segments y.segments same in
     let end : segments_end (front_size (length x.segments)) x.segments ≡ segments_end (front_size (length y.segments)) y.segments =
     ap (λ n. segments_end (front_size n) x.segments) count ∙ ends_alike (front_size (length y.segments)) x.segments y.segments same in
-    let names = names_alike 0 x.segments y.segments same in
-    let many : length x.symbols ≡ length y.symbols = ap (λ ss. length ss) symbols in
-    let strings : strings_len x.symbols ≡ strings_len y.symbols = ap (λ ss. strings_len ss) symbols in
-    let one = file_length x in
-    let other = file_length y in
-    omega (arith, count, end, names, many, strings, one, other)
+    let strings : ℕ = strings_len x.symbols in
+    let n : ℕ = length x.symbols in
+    let last : ℕ = segments_end (front_size (length y.segments)) y.segments in
+    let names : ℕ = segment_names 0 y.segments in
+    file_length x
+    ∙ (ap (λ m. file_size m (segment_names 0 x.segments) strings n (length x.segments)) end
+    ∙ (ap (λ m. file_size last m strings n (length x.segments)) (names_alike 0 x.segments y.segments same)
+    ∙ (ap (λ m. file_size last names strings n m) count
+    ∙ (ap (λ (ss : List Symbol). file_size last names (strings_len ss) (length ss) (length y.segments)) symbols ∙ sym (file_length y)))))

@@ -35,6 +35,10 @@ pub mod FlatFiles
 pub mod NeedBounds
 pub mod FileLengths
 pub mod ProgramPlans
+pub mod ImageSymbols
+pub mod RegionSizes
+pub mod OverlayFiles
+pub mod Execs
 pub mod JudgedImages
 pub mod JudgedExactly
 pub mod Exact
