@@ -1,7 +1,6 @@
 -- What is told of objects that aren't linked.
-use Rattle.std.proofs.Common.{◌≡◌, ℕ, ◌*◌, ◌≤◌, List, length, Result, Ok, Err, IfOk, sym, subst}
+use Rattle.std.proofs.Common.{◌≡◌, ℕ, List, Result, Ok, Err, IfOk, sym, subst}
 use Rattle.std.specs.Prelude.{IfErr}
-use Rattle.spu_word.specs.declared.limits.TheConstants.{MAX_OBJECTS, MAX_SYMBOLS}
 use Rattle.spu_elf.specs.declared.objects.Object.{Object}
 use Rattle.spu_lift.specs.LiftFaults.{Lifted}
 use Rattle.spu_lift.specs.declared.program.Prog.{Prog}
@@ -13,10 +12,6 @@ use Rattle.spu_image.specs.declared.outcome.Linked.{Linked}
 use Rattle.spu_image.specs.declared.outcome.LinkOptions.{LinkOptions}
 use Rattle.spu_image.specs.JudgedLinking.{IsImage, IsImageRefused, judged_in}
 use Rattle.spu_image.specs.Linking.{IsJudgedFrom, IsJudgeFault, IsLinked, IsLinkFault}
-
--- what is judged has few globals
-pub few_globals : (objects : List Object) (entry : List ℕ) (limit : ℕ) (j : Judged) → IsJudgedFrom objects entry limit j → length j.prog.globals ≤ MAX_OBJECTS * MAX_SYMBOLS
-few_globals objects entry limit j h = h.judgement.judged.formed.few_globals
 
 -- a judgement of a program is one of its own
 pub judged_from : (objects : List Object) (entry : List ℕ) (limit : ℕ) (p : Prog) (j : Judged) → Lifted objects entry p → IsJudgement p limit j → IsJudgedFrom objects entry limit j

@@ -1,6 +1,6 @@
 -- Objects that are linked have no fault.
 use Rattle.std.proofs.Common.{◌≡◌, ℕ, List, refl, subst}
-use Rattle.std.specs.Prelude.{All}
+use Rattle.std.specs.Prelude.{All, Contains}
 use Rattle.spu_elf.specs.declared.objects.Object.{Object}
 use Rattle.spu_elf.specs.WellFormed.{IsWellFormed}
 use Rattle.spu_lift.specs.LiftFaults.{Lifted}
