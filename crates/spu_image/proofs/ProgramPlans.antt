@@ -41,7 +41,7 @@ rooted_more entry names k (d ∷ cs) c =
 pub rooted_next : (entry : ℕ) (names : List (List ℕ)) (cs : List CodeSection) (k : ℕ) (c : CodeSection) → k < length cs → c ≡ get_or cs k c → (old new : List Bool) (flag : Bool) → old ≡ are_rooted entry names 0 (take k cs) → new ≡ old ++ flag ∷ []
     → flag ≡ ((k == entry) || is_one_of names c.name) → new ≡ are_rooted entry names 0 (take (k + 1) cs)
 rooted_next entry names cs k c lt is old new flag a b e =
-    let long : 0 + length (take k cs) ≡ k = (let n = length-take-le cs k (omega arith) in omega (arith, n)) in
+    let long : 0 + length (take k cs) ≡ k = (let n = length-take-le k cs (omega arith) in omega (arith, n)) in
     b ∙ (ap (λ f. old ++ f ∷ []) e ∙ (ap (λ fs. fs ++ ((k == entry) || is_one_of names c.name) ∷ []) a
     ∙ sym (ap (are_rooted entry names 0) (take_more cs k c lt ∙ ap (λ d. take k cs ++ d ∷ []) (sym is))
     ∙ (rooted_more entry names 0 (take k cs) c ∙ ap (λ n. are_rooted entry names 0 (take k cs) ++ ((n == entry) || is_one_of names c.name) ∷ []) long))))
