@@ -4,7 +4,7 @@ use Rattle.std.specs.Prelude.{not}
 use Rattle.std.proofs.lemmas.Bool.{cases_Bool}
 use Rattle.std.proofs.lemmas.List.{length-drop}
 use Rattle.spu_word.specs.declared.limits.TheConstants.{MAX_FILE_SIZE, QUAD_SIZE}
-use Rattle.spu_word.specs.declared.memory.OutOfMemory.{OutOfMemory}
+use Rattle.spu_word.specs.declared.sequence.OutOfMemory.{OutOfMemory}
 use Rattle.spu_elf.specs.declared.executables.Exec.{Exec}
 use Rattle.spu_elf.specs.declared.objects.Symbol.{Symbol}
 use Rattle.spu_elf.specs.Spelling.{spell_exec}

@@ -108,7 +108,7 @@ module _ (p : Prog) (well : IsWellFormed p) (plan : Plan) (limit : ℕ) (planned
 
     -- ---- segments
 
-    pub overlay_sizes : sizes x.segments ≡ table_end p plan - DATA_START ∷ map (region_size p plan) (range_with_len 1 plan.regions)
+    pub overlay_sizes : sizes x.segments ≡ (table_end p plan - DATA_START) ∷ map (region_size p plan) (range_with_len 1 plan.regions)
     overlay_sizes =
         ap sizes image.segments ∙ ap₂ (λ (m : ℕ) (ms : List ℕ). m ∷ ms) root_size (sizes_in (region_segment p plan image.sections) (region_size p plan) 1 plan.regions size_is)
 

@@ -18,29 +18,29 @@ image_exec-requires c = laid_out c.args.judged c.args.options.now c.requires.jud
 pub file_len-size-requires : goal.file_len-size-requires
 file_len-size-requires c =
     is_small c.args.judged c.args.options.now c.requires.judged c.requires.limit c.requires.buffers c.requires.largest c.in_ok-plan.plan c.in_ok-plan.ensures.plan c.in_ok-layout.layout c.in_ok-layout.ensures.layout c.in_ok-layout.ensures.functions
-    c.in_ok-told.told.items (λ f lt. c.in_ok-told.ensures f (omega (arith, lt, c.len.ensures.value)))
+    c.in_ok-told.told.items (λ f lt. c.in_ok-told.ensures f (omega (arith, lt, c.len-count.ensures.value)))
     c.in_ok-exec.exec (subst (λ (t : List (Option ℕ)). IsExec c.args.judged.prog c.in_ok-plan.plan c.args.options.now.limit (told_in t) c.in_ok-exec.exec) c.deref.ensures.value c.in_ok-exec.ensures)
 
 pub returns-then-size-from-clause-refused : goal.returns-then-size-from-clause-refused
 returns-then-size-from-clause-refused c =
     too_large c.args.judged c.args.options.now c.requires.judged c.requires.limit c.requires.buffers c.requires.largest c.in_ok-plan.plan c.in_ok-plan.ensures.plan c.in_ok-layout.layout c.in_ok-layout.ensures.layout c.in_ok-layout.ensures.functions
-    c.in_ok-told.told.items (λ f lt. c.in_ok-told.ensures f (omega (arith, lt, c.len.ensures.value)))
+    c.in_ok-told.told.items (λ f lt. c.in_ok-told.ensures f (omega (arith, lt, c.len-count.ensures.value)))
     c.in_ok-exec.exec (subst (λ (t : List (Option ℕ)). IsExec c.args.judged.prog c.in_ok-plan.plan c.args.options.now.limit (told_in t) c.in_ok-exec.exec) c.deref.ensures.value c.in_ok-exec.ensures)
     c.file_len-size.result c.file_len-size.ensures (omega (arith, c.from.ensures, c.if-size-from.true))
 
 pub write_exec-requires : goal.write_exec-requires
 write_exec-requires c =
     valid c.args.judged c.args.options.now c.requires.judged c.requires.limit c.requires.buffers c.requires.largest c.in_ok-plan.plan c.in_ok-plan.ensures.plan c.in_ok-layout.layout c.in_ok-layout.ensures.layout c.in_ok-layout.ensures.functions
-    c.in_ok-told.told.items (λ f lt. c.in_ok-told.ensures f (omega (arith, lt, c.len.ensures.value)))
+    c.in_ok-told.told.items (λ f lt. c.in_ok-told.ensures f (omega (arith, lt, c.len-count.ensures.value)))
     c.in_ok-exec.exec (subst (λ (t : List (Option ℕ)). IsExec c.args.judged.prog c.in_ok-plan.plan c.args.options.now.limit (told_in t) c.in_ok-exec.exec) c.deref.ensures.value c.in_ok-exec.ensures)
     (omega (arith, c.from.ensures, c.if-size-from.false, c.file_len-size.ensures))
 
 pub returns-clause-image : goal.returns-clause-image
 returns-clause-image c =
     linked c.args.judged c.args.options.now c.requires.judged c.requires.limit c.requires.buffers c.requires.largest c.in_ok-plan.plan c.in_ok-plan.ensures.plan c.in_ok-layout.layout c.in_ok-layout.ensures.layout c.in_ok-layout.ensures.functions
-    c.in_ok-told.told.items (λ f lt. c.in_ok-told.ensures f (omega (arith, lt, c.len.ensures.value)))
+    c.in_ok-told.told.items (λ f lt. c.in_ok-told.ensures f (omega (arith, lt, c.len-count.ensures.value)))
     c.in_ok-exec.exec (subst (λ (t : List (Option ℕ)). IsExec c.args.judged.prog c.in_ok-plan.plan c.args.options.now.limit (told_in t) c.in_ok-exec.exec) c.deref.ensures.value c.in_ok-exec.ensures)
     c.in_ok-file.file c.in_ok-file.ensures.spelling (valid c.args.judged c.args.options.now c.requires.judged c.requires.limit c.requires.buffers c.requires.largest c.in_ok-plan.plan c.in_ok-plan.ensures.plan c.in_ok-layout.layout c.in_ok-layout.ensures.layout c.in_ok-layout.ensures.functions
-    c.in_ok-told.told.items (λ f lt. c.in_ok-told.ensures f (omega (arith, lt, c.len.ensures.value)))
+    c.in_ok-told.told.items (λ f lt. c.in_ok-told.ensures f (omega (arith, lt, c.len-count.ensures.value)))
     c.in_ok-exec.exec (subst (λ (t : List (Option ℕ)). IsExec c.args.judged.prog c.in_ok-plan.plan c.args.options.now.limit (told_in t) c.in_ok-exec.exec) c.deref.ensures.value c.in_ok-exec.ensures)
     (omega (arith, c.from.ensures, c.if-size-from.false, c.file_len-size.ensures)))
