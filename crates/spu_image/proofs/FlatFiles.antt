@@ -67,7 +67,7 @@ module _ (p : Prog) (well : IsWellFormed p) (limit : ℕ) (below : (planned p).e
     planned_small = record {
       few_segments = subst (λ (ss : List Segment). length ss ≤ MAX_SEGMENTS) (sym image.segments) (lit≤ tt);
       small = subst (All (λ (s : Segment). length s.bytes ≤ STORE_SIZE)) (sym image.segments) (All-cons (λ (s : Segment). length s.bytes ≤ STORE_SIZE) (one_segment image.bytes) [] (let end = ends in omega (arith, end, below)) (All-nil (λ (s : Segment). length s.bytes ≤ STORE_SIZE)));
-      few_symbols = subst (λ (ss : List Symbol). length ss ≤ 2 ^ 26) (sym image.symbols) (few_flat p well l told);
+      few_symbols = subst (λ (ss : List Symbol). length ss ≤ 2 ^ 27) (sym image.symbols) (few_flat p well l told);
       short = subst (All (λ (s : Symbol). length s.name ≤ MAX_NAME_SIZE)) (sym image.symbols) (names_short 1 (symbols_of p l told) symbols_valid);
     }
 

@@ -187,7 +187,7 @@ module _ (p : Prog) (well : IsWellFormed p) (l : Layout) (told : ℕ → Option 
 
   -- ---- their number
 
-  few_parts : length own_locals + length stacks + length own_globals + length datas ≤ 2 ^ 26 - 1
+  few_parts : length own_locals + length stacks + length own_globals + length datas ≤ 2 ^ 26
   few_parts =
       let gs : List Function = drop 1 p.functions in
       let few = well.few_globals in
@@ -199,7 +199,7 @@ module _ (p : Prog) (well : IsWellFormed p) (l : Layout) (told : ℕ → Option 
       let w = few_functions l (λ (g : Function). g.global) 1 gs in
       omega (arith, d, m, n, u, v, w, few)
 
-  pub few_flat : length (symbols_of p l told) ≤ 2 ^ 26
+  pub few_flat : length (symbols_of p l told) ≤ 2 ^ 27
   few_flat =
       let few = few_parts in
       let a = length-append ((own_locals ++ stacks) ++ own_globals) datas in
