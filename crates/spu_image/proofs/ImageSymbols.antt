@@ -207,7 +207,7 @@ module _ (p : Prog) (well : IsWellFormed p) (l : Layout) (told : ℕ → Option 
       let c = length-append own_locals stacks in
       omega (arith, few, a, b, c)
 
-  pub few_overlay : (at : ℕ) → length (overlay_symbols p l at told) ≤ 2 ^ 26
+  pub few_overlay : (at : ℕ) → length (overlay_symbols p l at told) ≤ 2 ^ 27
   few_overlay at =
       let few = few_parts in
       let a = length-append (((own_locals ++ stacks) ++ image_symbol at ∷ []) ++ own_globals) datas in
