@@ -127,6 +127,10 @@ impl<'a> Arguments<'a> {
             OptionName::Stack => Ok(self.options.take_stack(text.as_bytes())),
             OptionName::Entry => self.options.take_entry(alloc, text.as_bytes()),
             OptionName::StackSyms => Ok(self.options.take_stack_syms(value)),
+            OptionName::Overlay => Ok(self.options.take_overlay(text.as_bytes())),
+            OptionName::Root => self.options.take_root(alloc, text.as_bytes()),
+            OptionName::Buffers => Ok(self.options.take_buffers(text.as_bytes())),
+            OptionName::Largest => Ok(self.options.take_largest(text.as_bytes())),
         }
     }
 
