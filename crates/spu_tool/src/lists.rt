@@ -58,6 +58,7 @@ pub fn mail_of(alloc: Global, list: &[u8]) -> Result<Option<Seq<u32>>, OutOfMemo
     Ok(Some(words))
 }
 
+#[tactic(auto, using(crate::proofs::Members::all_names, crate::proofs::Members::no_name))]
 /// The names that a list has, each of which may name a section, as it may name a symbol.
 pub fn names_of(alloc: Global, list: &[u8]) -> Result<Option<Seq<Name>>, OutOfMemory>
     ensures { IfOk result (λ names. names ≡ names_of list.now) }
