@@ -34,7 +34,11 @@ pub mod FlatImages
 pub mod FlatFiles
 pub mod NeedBounds
 pub mod FileLengths
-pub mod FlatPlans
+pub mod ProgramPlans
+pub mod ImageSymbols
+pub mod RegionSizes
+pub mod OverlayFiles
+pub mod Execs
 pub mod JudgedImages
 pub mod JudgedExactly
 pub mod Exact
@@ -47,6 +51,7 @@ pub mod TourLinks
 pub mod RegionBytes
 pub mod Stubs
 pub mod Tables
+pub mod OverlayPlans
 pub mod Overlaying
 pub mod Tails
 pub mod OverlayImages

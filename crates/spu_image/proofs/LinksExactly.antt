@@ -1,6 +1,6 @@
 -- Objects that are linked have no fault.
 use Rattle.std.proofs.Common.{◌≡◌, ℕ, List, refl, subst}
-use Rattle.std.specs.Prelude.{All}
+use Rattle.std.specs.Prelude.{All, Contains}
 use Rattle.spu_elf.specs.declared.objects.Object.{Object}
 use Rattle.spu_elf.specs.WellFormed.{IsWellFormed}
 use Rattle.spu_lift.specs.LiftFaults.{Lifted}
@@ -8,12 +8,13 @@ use Rattle.spu_lift.specs.declared.program.Prog.{Prog}
 use Rattle.spu_frame.specs.Found.{frame_at}
 use Rattle.spu_graph.specs.Known.{need_of}
 use Rattle.spu_judge.specs.declared.outcome.Judged.{Judged}
+use Rattle.spu_plan.specs.declared.constants.TheConstants.{BUFFER_COUNTS, BUFFER_SIZES}
 use Rattle.spu_judge.specs.Answers.{IsFrameRefusal, IsJudgement, IsLimitRefusal, IsRecursionRefusal}
 use Rattle.spu_image.specs.declared.outcome.Linked.{Linked}
 use Rattle.spu_image.specs.declared.outcome.LinkFault.{LinkFault}
 use Rattle.spu_image.specs.declared.outcome.LinkFault.TheVariants as faults
 use Rattle.spu_image.specs.declared.outcome.LinkOptions.{LinkOptions}
-use Rattle.spu_image.specs.JudgedLinking.{IsFileTooLarge, IsTooLarge, judged_in, told_of}
+use Rattle.spu_image.specs.JudgedLinking.{IsFileTooLarge, IsPlanTooLarge, judged_in, told_of}
 use Rattle.spu_image.specs.Linking.{IsJudgedFrom, IsJudgeFault, IsLinked, IsLinkFault, IsOfProgram}
 use Rattle.spu_lift.proofs.OneProgram.{one_program}
 use Rattle.spu_frame.proofs.Additions.{good_faultless}
@@ -40,7 +41,7 @@ judged_exactly objects entry limit j (faults.TooLarge least room) formed is h = 
 judged_exactly objects entry limit j (faults.FileTooLarge size) formed is h = absurd h
 judged_exactly objects entry limit j faults.OutOfMemory formed is h = refl
 
-module _ (objects : List Object) (formed : All IsWellFormed objects) (o : LinkOptions) (l : Linked) (is : IsLinked objects o l) where
+module _ (objects : List Object) (formed : All IsWellFormed objects) (o : LinkOptions) (buffers : Contains BUFFER_COUNTS o.buffers) (largest : Contains BUFFER_SIZES o.largest) (l : Linked) (is : IsLinked objects o l) where
   same_program : (k : Judged) → IsJudgedFrom objects o.entry o.limit k → k.prog ≡ l.prog
   same_program k from = one_program objects o.entry k.prog l.prog formed from.program is.judged.program
 
@@ -50,10 +51,11 @@ module _ (objects : List Object) (formed : All IsWellFormed objects) (o : LinkOp
   linked_exactly (faults.Recursion names) h = judged_exactly objects o.entry o.limit (judged_in l) (faults.Recursion names) formed is.judged h
   linked_exactly (faults.StackLimit need over) h = judged_exactly objects o.entry o.limit (judged_in l) (faults.StackLimit need over) formed is.judged h
   linked_exactly (faults.TooLarge least room) h =
-      absurd (plan_kept l.prog l.plan o.limit least room is.image.fits (subst (λ p. IsTooLarge p o.limit least room) (same_program h.judged h.from) h.holds))
+      let over = subst (λ p. IsPlanTooLarge p o least room) (same_program h.judged h.from) h.holds in
+      absurd (plan_kept l.prog is.judged.judgement.judged.formed o buffers largest l.plan is.image.plan least over.0)
   linked_exactly (faults.FileTooLarge size) h =
       let same = same_program h.judged h.from in
       let told_needs = told_of o.stack_syms (need_of h.judged.needs) in
-      absurd (file_kept l.prog o.limit (judged_in l) h.judged is.judged.judgement (subst (λ p. IsJudgement p o.limit h.judged) same h.from.judgement) o.stack_syms l.plan is.image.fits l.exec is.image.image is.image.valid size
-      (subst (λ p. IsFileTooLarge p o.limit told_needs size) same h.holds))
+      absurd (file_kept l.prog is.judged.judgement.judged.formed o buffers largest l.plan is.image.plan (judged_in l) h.judged is.judged.judgement (subst (λ p. IsJudgement p o.limit h.judged) same h.from.judgement) l.exec is.image.image is.image.valid size
+      (subst (λ p. IsFileTooLarge p o told_needs size) same h.holds))
   linked_exactly faults.OutOfMemory h = refl

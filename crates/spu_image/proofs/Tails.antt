@@ -106,16 +106,13 @@ in_front : (d q s n r t : List ℕ) → ((((d ++ q) ++ s) ++ n) ++ r) ++ t ≡ d
 in_front d q s n r t = simp append_assoc
 
 module _ (p : Prog) (plan : Plan) (l : Layout) (few : plan.regions ≤ length p.code) (some : 1 ≤ length p.functions) (low : DATA_START ≤ p.data_end) (to : l.code_area.to ≡ table_end p plan)
-    (regions : List (List ℕ)) (root : List ℕ) (long : length root ≡ region_size p plan 0) (limit : ℕ) (start : List ℕ) (starts : AreWords l 0 0 (start_instructions p.data_end p.entry) start) where
-  abbrev load : ℕ
-  load = l.code_area.to - DATA_START
+    (root : List ℕ) (long : length root ≡ region_size p plan 0) (limit : ℕ) (start : List ℕ) (starts : AreWords l 0 0 (start_instructions p.data_end p.entry) start) where
+  abbrev pub bytes_with : (ℕ → ℕ) → List ℕ → List ℕ
+  bytes_with offset passage = data_bytes p l ++ (start_quad limit ++ (bytes_of_words (start ++ 0 ∷ []) ++ (root ++ tail p plan l passage offset)))
 
-  abbrev bytes_by : ℕ → List ℕ → List ℕ
-  bytes_by n passage = data_bytes p l ++ (start_quad limit ++ (bytes_of_words (start ++ 0 ∷ []) ++ (root ++ tail p plan l passage (offset_of n regions))))
-
-  bytes_long : (n shift : ℕ) (passage : List ℕ) → AreWordsOf (passage_code p plan l shift) passage → length (bytes_by n passage) ≡ load
-  bytes_long n shift passage passes =
-      let behind : List ℕ = tail p plan l passage (offset_of n regions) in
+  pub bytes_long : (offset : ℕ → ℕ) (shift : ℕ) (passage : List ℕ) → AreWordsOf (passage_code p plan l shift) passage → length (bytes_with offset passage) ≡ l.code_area.to - DATA_START
+  bytes_long offset shift passage passes =
+      let behind : List ℕ = tail p plan l passage offset in
       let words : List ℕ = bytes_of_words (start ++ 0 ∷ []) in
       let a = length-append (data_bytes p l) (start_quad limit ++ (words ++ (root ++ behind))) in
       let b = length-append (start_quad limit) (words ++ (root ++ behind)) in
@@ -129,8 +126,16 @@ module _ (p : Prog) (plan : Plan) (l : Layout) (few : plan.regions ≤ length p.
       let both = length-append (stub_codes (loader_start p plan) l 1 (drop 1 p.functions)) (loader_code (loader_of p plan shift)) in
       let stubs = stubs_long (loader_start p plan) l 1 (drop 1 p.functions) in
       let others = length-drop 1 p.functions in
-      let rest = tail_long p plan few l (offset_of n regions) passage (length p.functions - 1) (omega (arith, code, both, stubs, others)) in
+      let rest = tail_long p plan few l offset passage (length p.functions - 1) (omega (arith, code, both, stubs, others)) in
       omega (arith, low, to, long, a, b, c, d, base, own, four, three, rest)
+
+module _ (p : Prog) (plan : Plan) (l : Layout) (few : plan.regions ≤ length p.code) (some : 1 ≤ length p.functions) (low : DATA_START ≤ p.data_end) (to : l.code_area.to ≡ table_end p plan)
+    (regions : List (List ℕ)) (root : List ℕ) (long : length root ≡ region_size p plan 0) (limit : ℕ) (start : List ℕ) (starts : AreWords l 0 0 (start_instructions p.data_end p.entry) start) where
+  abbrev load : ℕ
+  load = l.code_area.to - DATA_START
+
+  abbrev bytes_by : ℕ → List ℕ → List ℕ
+  bytes_by n passage = data_bytes p l ++ (start_quad limit ++ (bytes_of_words (start ++ 0 ∷ []) ++ (root ++ tail p plan l passage (offset_of n regions))))
 
   pub root_segment_made : (base quad front more body bytes : List ℕ) → base ≡ data_bytes p l → quad ≡ base ++ bytes_of_words (STACK_TOP ∷ limit ∷ 0 ∷ 0 ∷ []) → front ≡ quad ++ bytes_of_words start → more ≡ front ++ bytes_of_words (0 ∷ []) → body ≡ more ++ root
       → AddsTail p plan l (offset_of load regions) body bytes → IsRootSegment p plan l limit root (offset_of (length bytes) regions) bytes
@@ -141,7 +146,7 @@ module _ (p : Prog) (plan : Plan) (l : Layout) (few : plan.regions ≤ length p.
     size = adds.size;
     passage = adds.passage;
     passes = adds.passes;
-    is = is ∙ ap (λ n. bytes_by n adds.passage) (sym (ap length is ∙ bytes_long load adds.shift adds.passage adds.passes));
+    is = is ∙ ap (λ n. bytes_by n adds.passage) (sym (ap length is ∙ bytes_long p plan l few some low to root long limit start starts (offset_of load regions) adds.shift adds.passage adds.passes));
   }
     where
       is : bytes ≡ bytes_by load adds.passage

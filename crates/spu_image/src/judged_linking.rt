@@ -1,7 +1,7 @@
 //! Links of judged programs.
 
-ghost use Rattle.std.specs.Prelude.{◌≡◌, ◌*◌, ◌≤◌, length, Contains, IfErr, IfOk};
-ghost use Rattle.spu_word.specs.declared.limits.TheConstants.{MAX_OBJECTS, MAX_STACK_LIMIT, MAX_SYMBOLS};
+ghost use Rattle.std.specs.Prelude.{◌≡◌, ◌≤◌, Contains, IfErr, IfOk};
+ghost use Rattle.spu_word.specs.declared.limits.TheConstants.{MAX_STACK_LIMIT};
 ghost use Rattle.spu_plan.specs.declared.constants.TheConstants.{BUFFER_COUNTS, BUFFER_SIZES};
 ghost use Rattle.spu_judge.specs.Answers.{IsJudgement};
 ghost use Rattle.spu_image.specs.JudgedLinking.{IsImage, IsImageRefused, judged_in};
@@ -30,7 +30,6 @@ pub fn link_judged(
     requires limit { options.now.limit ≤ MAX_STACK_LIMIT }
     requires buffers { Contains BUFFER_COUNTS options.now.buffers }
     requires largest { Contains BUFFER_SIZES options.now.largest }
-    requires globals { length judged.prog.globals ≤ MAX_OBJECTS * MAX_SYMBOLS }
     ensures of { IfOk result (λ l. judged_in l ≡ judged) }
     ensures image { IfOk result (IsImage options.now) }
     ensures refused { IfErr result (IsImageRefused judged options.now) }

@@ -1,6 +1,6 @@
 //! Laws of links and of the words that they make.
 
-ghost use Rattle.std.specs.Prelude.{◌≡◌, ◌≤◌, ◌∷◌, [], ℕ, List, Option, Some, All, pos};
+ghost use Rattle.std.specs.Prelude.{◌≡◌, ◌≤◌, ◌∷◌, [], ℕ, List, Option, Some, All, Contains, pos};
 ghost use Rattle.spu_word.specs.Bytes.{word_of};
 ghost use Rattle.spu_elf.specs.declared.executables.Exec.{Exec};
 ghost use Rattle.spu_isa.specs.declared.operation.Op.TheVariants as op;
@@ -8,6 +8,7 @@ ghost use Rattle.spu_isa.specs.Table.{Decodes};
 ghost use Rattle.spu_lift.specs.declared.program.Prog.{Prog};
 ghost use Rattle.spu_lift.specs.Places.{link_register, stack_pointer};
 ghost use Rattle.spu_lift.specs.WellFormed.{IsWellFormed};
+ghost use Rattle.spu_plan.specs.declared.constants.TheConstants.{BUFFER_COUNTS, BUFFER_SIZES};
 ghost use Rattle.spu_plan.specs.declared.plan.Plan.{Plan};
 ghost use Rattle.spu_ls.specs.Hops.{hop};
 ghost use Rattle.spu_ls.specs.Machine.{State, step};
@@ -35,7 +36,7 @@ ghost use Rattle.spu_image.specs.Samples.{tour_after, tour_layout};
 /// holds.
 pub fn links_are_exact()
     ensures judged { (objects : List Object) (entry : List ℕ) (limit : ℕ) (j : Judged) (fault : LinkFault) → All IsWellFormedObject objects → IsJudgedFrom objects entry limit j → IsJudgeFault objects entry limit fault → fault ≡ faults.OutOfMemory }
-    ensures linked { (objects : List Object) (o : LinkOptions) (l : Linked) (fault : LinkFault) → All IsWellFormedObject objects → IsLinked objects o l → IsLinkFault objects o fault → fault ≡ faults.OutOfMemory }
+    ensures linked { (objects : List Object) (o : LinkOptions) (l : Linked) (fault : LinkFault) → All IsWellFormedObject objects → Contains BUFFER_COUNTS o.buffers → Contains BUFFER_SIZES o.largest → IsLinked objects o l → IsLinkFault objects o fault → fault ≡ faults.OutOfMemory }
 {}
 
 /// A flat image of a program without named areas can start, with no mail and no areas.

@@ -87,7 +87,7 @@ pub fn judge(
     }
 }
 
-#[tactic(auto, using(crate::proofs::LinkAnswers::few_globals, crate::proofs::LinkAnswers::linked_if))]
+#[tactic(auto, using(crate::proofs::LinkAnswers::linked_if))]
 /// Links objects to an executable, flat or with overlays, whose entry function, stack, regions and symbols the options give. A
 /// run of it is the run of the program that the objects stand for.
 ///

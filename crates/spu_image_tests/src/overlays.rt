@@ -1,17 +1,18 @@
-//! The executable of a small program with overlays, word by word: `main` stays in the root, and calls a function in a region.
+//! Images with overlays of small programs, word by word, and programs that have none.
 
-ghost use Rattle.std.specs.Prelude.{◌≡◌, length, IfOk};
+ghost use Rattle.std.specs.Prelude.{◌≤◌, ◌↔◌, Contains, IsTrue};
+ghost use Rattle.spu_word.specs.declared.limits.TheConstants.{MAX_STACK_LIMIT};
+ghost use Rattle.spu_plan.specs.declared.constants.TheConstants.{BUFFER_COUNTS, BUFFER_SIZES};
 ghost use Rattle.spu_lift.specs.WellFormed.{IsWellFormed};
-ghost use Rattle.spu_plan.specs.Choices.{IsInput};
-ghost use Rattle.spu_layout.specs.Planned.{IsInputOf};
 
-use spu_elf::{Exec, SymKind, SymPlace, Symbol, is_same};
-use spu_image::overlay_exec;
-use spu_layout::{lay_out, section_sizes};
+use spu_elf::{SymKind, SymPlace, Symbol, is_same};
+use spu_image::{LinkFault, LinkOptions, Linked, link_judged};
+use spu_judge::judge_program;
 use spu_lift::Prog;
-use spu_plan::{Mode, PlanInput, make_plan};
+use spu_plan::Mode;
+use spu_plan::constants::{BUFFER_COUNTS, BUFFER_SIZES};
 use spu_samples::{NONE, Step, program};
-use spu_word::limits::STACK_TOP;
+use spu_word::limits::MAX_STACK_LIMIT;
 use spu_word::{OutOfMemory, Seq};
 use std::alloc::Global;
 use std::test::Fail;
@@ -29,6 +30,16 @@ const MAIN: &[Step] = &[
 
 /// Three words, which are filled up to a quadword.
 const CALLEE: &[Step] = &[Step::Load(3, 5), Step::Nothing, Step::Return];
+
+/// A frame, and calls of three functions.
+const CALLS: &[Step] = &[
+    Step::Add(1, -32),
+    Step::Call(2),
+    Step::Call(3),
+    Step::Call(4),
+    Step::Add(1, 32),
+    Step::Return,
+];
 
 /// The addresses of words of the root, and the words.
 const ROOT: [(u32, u32); 58] = [
@@ -106,50 +117,103 @@ const REGION: [(u32, u32); 4] = [
     (652, 0),
 ];
 
-/// Of so many sections the first one is to stay in the root.
-fn rooted(alloc: Global, count: usize) -> Result<Seq<bool>, OutOfMemory>
-    ensures { IfOk result (λ flags. length flags ≡ count) }
-{
-    let mut flags = Seq::new(alloc);
-    for k in 0..count {
-        flags.push(k == 0)?;
-    }
-    Ok(flags)
-}
+/// The words of the root of a program with three regions and two buffers of 1,024 bytes, from the start of the data on: the start,
+/// `main`, four stubs, the loader, two mapped quadwords, the loader's three, and the table.
+const ROOT_OF_THREE: [u32; 140] = [
+    0x0003_ffe0, 0x0000_4000, 0x0000_0000, 0x0000_0000, 0x33ff_fe01, 0x3300_0180,
+    0x0000_2000, 0x0000_0000, 0x1cf8_0081, 0x3300_0580, 0x3300_0700, 0x3300_0880,
+    0x1c08_0081, 0x3500_0000, 0x0000_0000, 0x0000_0000, 0x4200_004e, 0x0020_0000,
+    0x4200_504f, 0x3200_0680, 0x4200_00ce, 0x0020_0000, 0x4201_804f, 0x3200_0480,
+    0x4200_014e, 0x0020_0000, 0x4203_804f, 0x3200_0280, 0x4200_01ce, 0x0020_0000,
+    0x4201_804f, 0x3200_0080, 0x4201_7fcc, 0x5813_004b, 0x2000_06cb, 0x4201_824d,
+    0x0800_26cd, 0x0f3d_a6cd, 0x0f61_26cd, 0x4201_084c, 0x1813_664c, 0x3400_264d,
+    0x3fbe_0000, 0x3fbf_26cd, 0x3380_204c, 0x0833_4000, 0x0833_0000, 0x2000_17ce,
+    0x1cff_e74c, 0x1400_664c, 0x0f61_264c, 0x4201_084d, 0x1813_664c, 0x3400_264d,
+    0x7813_a6cd, 0x2100_13cd, 0x32f8_004b, 0x1832_e74b, 0x2400_264b, 0x0f61_274c,
+    0x4201_304d, 0x1813_664c, 0x3400_264d, 0x21a0_084d, 0x3f81_26cc, 0x40a0_004b,
+    0x5812_e64e, 0x8992_e64e, 0x21a0_09cc, 0x3f82_26cc, 0x3380_154b, 0x3f81_25ce,
+    0x1813_274c, 0x21a0_094c, 0x5813_274e, 0x0812_e74b, 0x21a0_08cb, 0x4080_0fcc,
+    0x21a0_0a4c, 0x4080_204c, 0x21a0_0acc, 0x3380_11cc, 0x1813_26cd, 0x3f81_26cc,
+    0x4c00_264c, 0x217f_f54c, 0x01a0_064e, 0x4140_004c, 0x21a0_0b4c, 0x4080_014c,
+    0x21a0_0bcc, 0x01a0_0c4c, 0x21a0_0b4e, 0x0040_0000, 0x3500_2780, 0x3f81_004e,
+    0x3f82_004f, 0x327f_e700, 0x0000_0000, 0x0000_0000, 0x0000_0000, 0x0000_0000,
+    0x0000_0000, 0x0000_0000, 0x0000_0000, 0x0000_0000, 0x0000_0000, 0x0000_0000,
+    0x0000_01fc, 0x0000_0000, 0x0000_0000, 0x0000_0000, 0x0000_0000, 0x0000_0000,
+    0x0000_0000, 0x0000_0000, 0x0000_4000, 0xffff_c000, 0x0000_4000, 0x0000_0000,
+    0x0000_0000, 0x0000_0000, 0x0000_0000, 0x0000_0000, 0x0000_0300, 0x0000_0210,
+    0x0000_0380, 0x0000_0001, 0x0000_0700, 0x0000_0210, 0x0000_0600, 0x0000_0002,
+    0x0000_0300, 0x0000_0210, 0x0000_0880, 0x0000_0001, 0x0000_0000, 0x0000_0000,
+    0x0000_0000, 0x0000_0000,
+];
 
-/// What a plan with one buffer is made for.
-fn plan_input(alloc: Global, p: &Prog) -> Result<PlanInput, OutOfMemory>
-    requires { IsWellFormed p.now }
-    ensures allowed { IfOk result IsInput }
-    ensures of { IfOk result (IsInputOf p.now LIMIT) }
-{
-    let code = p.code.as_slice();
-    Ok(PlanInput {
-        sizes: section_sizes(alloc, code)?,
-        rooted: rooted(alloc, code.len())?,
-        data_end: p.data_end,
-        functions: p.functions.len() as u32 - 1,
-        room: STACK_TOP - LIMIT,
-        mode: Mode::Always,
-        buffers: 1,
-        largest: 16_384,
+/// What is asked for, of a program in whose root the sections with a name stay.
+fn options(
+    alloc: Global,
+    mode: Mode,
+    limit: u32,
+    buffers: u32,
+    largest: u32,
+    root: Option<&[u8]>,
+) -> Result<LinkOptions, OutOfMemory> {
+    let mut rooted = Seq::new(alloc);
+    if let Some(name) = root {
+        rooted.push(Seq::copied(alloc, name)?)?;
+    }
+    Ok(LinkOptions {
+        entry: Seq::copied(alloc, b"main")?,
+        limit,
+        mode,
+        rooted,
+        stack_syms: false,
+        buffers,
+        largest,
     })
 }
 
-/// The executable of a program, None where it has no plan with overlays.
-fn overlaid(alloc: Global, p: &Prog) -> Result<Option<Exec>, OutOfMemory>
-    requires { IsWellFormed p.now }
+/// Whether a link may be asked for this.
+fn are_allowed(options: &LinkOptions) -> bool
+    ensures { IsTrue result ↔ ((options.now.limit ≤ MAX_STACK_LIMIT) × Contains BUFFER_COUNTS options.now.buffers × Contains BUFFER_SIZES options.now.largest) }
 {
-    let input = plan_input(alloc, p)?;
-    match make_plan(alloc, &input) {
-        Ok(plan) => if plan.overlay {
-            let layout = lay_out(alloc, p, &plan, LIMIT)?;
-            Ok(Some(overlay_exec(alloc, p, &plan, &layout, LIMIT, &[])?))
-        } else {
-            Ok(None)
-        },
-        Err(_) => Ok(None),
+    options.limit <= MAX_STACK_LIMIT
+        && BUFFER_COUNTS.contains(&options.buffers)
+        && BUFFER_SIZES.contains(&options.largest)
+}
+
+/// The link of a program, None where it isn't judged.
+fn linked_program(
+    alloc: Global,
+    prog: Prog,
+    options: &LinkOptions,
+) -> Option<Result<Linked, LinkFault>>
+    requires { IsWellFormed prog }
+{
+    if !are_allowed(options) {
+        return None;
     }
+    match judge_program(alloc, prog, options.limit) {
+        Ok(judged) => Some(link_judged(alloc, judged, options)),
+        Err(_) => None,
+    }
+}
+
+/// The image of functions with these bodies.
+fn linked(alloc: Global, bodies: &[&[Step]], options: &LinkOptions) -> Result<Linked, Fail> {
+    let prog = program(alloc, bodies, NONE)?.ok_or("not well formed")?;
+    let told = linked_program(alloc, prog, options).ok_or("not judged")?;
+    Ok(told.ok().ok_or("no image")?)
+}
+
+/// The least end and the room of functions with these bodies that have no image.
+fn too_large(
+    alloc: Global,
+    bodies: &[&[Step]],
+    options: &LinkOptions,
+) -> Result<Option<(u64, u32)>, Fail> {
+    let prog = program(alloc, bodies, NONE)?.ok_or("not well formed")?;
+    Ok(match linked_program(alloc, prog, options).ok_or("not judged")? {
+        Err(LinkFault::TooLarge { least, room }) => Some((least, room)),
+        Ok(_) | Err(_) => None,
+    })
 }
 
 /// The word at an offset in bytes.
@@ -183,8 +247,9 @@ fn told(symbol: &Symbol, name: &[u8], kind: SymKind) -> Option<(u32, u32, u32)> 
 
 #[test]
 fn a_region_is_called(rt: HostRuntime) -> Result<(), Fail> {
-    let prog = program(rt.alloc(), &[MAIN, CALLEE], NONE)?.ok_or("not well formed")?;
-    let exec = overlaid(rt.alloc(), &prog)?.ok_or("no plan with overlays")?;
+    let alloc = rt.alloc();
+    let asked = options(alloc, Mode::Always, LIMIT, 1, 16_384, None)?;
+    let Linked { exec, .. } = linked(alloc, &[MAIN, CALLEE], &asked)?;
     assert_eq!(rt; exec.entry, 144);
     match exec.segments.as_slice() {
         [root, region] => {
@@ -224,5 +289,100 @@ fn a_region_is_called(rt: HostRuntime) -> Result<(), Fail> {
         }
         _ => return Err("not three symbols".into()),
     }
+    Ok(())
+}
+
+/// A body of so many words: these, and returns.
+fn filled(alloc: Global, front: &[Step], words: usize) -> Result<Vec<Step>, OutOfMemory> {
+    let mut body = Vec::new(alloc);
+    for k in 0..words {
+        body.push(*front.get(k).unwrap_or(&Step::Return))?;
+    }
+    Ok(body)
+}
+
+#[test]
+fn three_regions_share_two_buffers(rt: HostRuntime) -> Result<(), Fail> {
+    let alloc = rt.alloc();
+    let one = filled(alloc, &[], 130)?;
+    let calls = [Step::Add(1, -32), Step::Call(4), Step::Add(1, 32)];
+    let two = filled(alloc, &calls, 130)?;
+    let asked = options(alloc, Mode::Always, LIMIT, 2, 1_024, None)?;
+    let Linked {
+        exec, file, plan, ..
+    } = linked(alloc, &[CALLS, &one, &two, &one], &asked)?;
+    assert_eq!(rt;
+        (plan.regions, plan.buffer, plan.buffers, plan.end),
+        (3, 1_024, 2, 2_816)
+    );
+    match exec.segments.as_slice() {
+        [root, first, second, third] => {
+            for (k, w) in ROOT_OF_THREE.iter().enumerate() {
+                assert_eq!(rt; word(root.bytes.as_slice(), 4 * k as u32), Some(*w), "word {k}");
+            }
+            assert_eq!(rt;
+                (root.bytes.len(), first.address, second.address, third.address),
+                (560, 768, 1_792, 768)
+            );
+            assert_eq!(rt;
+                (first.bytes.len(), second.bytes.len(), third.bytes.len()),
+                (528, 528, 528)
+            );
+            // the call in the second region goes by a stub
+            assert_eq!(rt; word(second.bytes.as_slice(), 4), Some(0x3300_0000 + 0x7f3d80));
+        }
+        _ => return Err("not four segments".into()),
+    }
+    // the table names the places of the regions in the file
+    assert_eq!(rt; file.len(), 3_192);
+    assert_eq!(rt; word(file.as_slice(), 896), Some(0x3500_0000));
+    assert_eq!(rt; word(file.as_slice(), 1_536), Some(0x1cf8_0081));
+    Ok(())
+}
+
+#[test]
+fn sections_stay_in_the_root_by_name(rt: HostRuntime) -> Result<(), Fail> {
+    let alloc = rt.alloc();
+    let asked = options(alloc, Mode::Always, LIMIT, 1, 16_384, Some(b".text"))?;
+    let Linked { exec, plan, .. } = linked(alloc, &[MAIN, CALLEE], &asked)?;
+    assert_eq!(rt; (plan.overlay, plan.regions), (true, 0));
+    assert_eq!(rt; exec.segments.len(), 1);
+    let other = options(alloc, Mode::Always, LIMIT, 1, 16_384, Some(b".data"))?;
+    assert_eq!(rt; linked(alloc, &[MAIN, CALLEE], &other)?.plan.regions, 1);
+    Ok(())
+}
+
+#[test]
+fn refuses_what_ends_above_the_stack(rt: HostRuntime) -> Result<(), Fail> {
+    let alloc = rt.alloc();
+    for (mode, limit, told) in [
+        (Mode::Auto, 261_984, Some((192, 128))),
+        (Mode::Always, 261_984, Some((1_664, 128))),
+        (Mode::Never, 261_984, Some((192, 128))),
+        (Mode::Always, 260_512, Some((1_664, 1_600))),
+        (Mode::Auto, 260_512, None),
+    ] {
+        let asked = options(alloc, mode, limit, 1, 16_384, None)?;
+        assert_eq!(rt; too_large(alloc, &[MAIN, CALLEE], &asked)?, told);
+    }
+    Ok(())
+}
+
+#[test]
+fn refuses_a_file_that_is_too_large(rt: HostRuntime) -> Result<(), Fail> {
+    let alloc = rt.alloc();
+    let long = filled(alloc, &[], 16_384)?;
+    let mut bodies = Vec::new(alloc);
+    bodies.push(CALLEE)?;
+    for _ in 0..65 {
+        bodies.push(long.as_slice())?;
+    }
+    let prog = program(alloc, &bodies, NONE)?.ok_or("not well formed")?;
+    let asked = options(alloc, Mode::Auto, LIMIT, 1, 65_536, None)?;
+    let size = match linked_program(alloc, prog, &asked).ok_or("not judged")? {
+        Err(LinkFault::FileTooLarge { size }) => Some(size),
+        Ok(_) | Err(_) => None,
+    };
+    assert_eq!(rt; size, Some(0));
     Ok(())
 }

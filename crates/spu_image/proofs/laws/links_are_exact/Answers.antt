@@ -5,4 +5,4 @@ pub returns-clause-judged : goal.returns-clause-judged
 returns-clause-judged c = judged_exactly
 
 pub returns-clause-linked : goal.returns-clause-linked
-returns-clause-linked c objects o l fault formed is h = linked_exactly objects formed o l is fault h
+returns-clause-linked c objects o l fault formed buffers largest is h = linked_exactly objects formed o buffers largest l is fault h
