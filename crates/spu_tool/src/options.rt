@@ -161,11 +161,14 @@ fn size_of(text: &[u8]) -> Option<u32>
 fn mode_named(value: &[u8]) -> Option<Mode>
     ensures { result ≡ mode_named value.now }
 {
-    match value {
-        b"auto" => Some(Mode::Auto),
-        b"always" => Some(Mode::Always),
-        b"never" => Some(Mode::Never),
-        _ => None,
+    if value == b"auto".as_slice() {
+        Some(Mode::Auto)
+    } else if value == b"always".as_slice() {
+        Some(Mode::Always)
+    } else if value == b"never".as_slice() {
+        Some(Mode::Never)
+    } else {
+        None
     }
 }
 
