@@ -34,6 +34,7 @@ pub mod FlatImages
 pub mod FlatFiles
 pub mod NeedBounds
 pub mod FileLengths
+pub mod NameSets
 pub mod ProgramPlans
 pub mod ImageSymbols
 pub mod RegionSizes

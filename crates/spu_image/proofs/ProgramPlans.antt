@@ -1,9 +1,9 @@
 -- What the plan of a program is made for, and the plans that are made of it.
-use Rattle.std.proofs.Common.{◌≡◌, ℕ, suc, ◌+◌, ◌-◌, ◌%◌, ◌≤◌, ◌<◌, Bool, true, false, List, [], ◌∷◌, ◌++◌, length, Some, refl, sym, ap, ◌∙◌, subst, ⊎_elim, arith}
+use Rattle.std.proofs.Common.{◌≡◌, ℕ, suc, ◌+◌, ◌-◌, ◌%◌, ◌≤◌, ◌<◌, Bool, true, false, List, [], ◌∷◌, ◌++◌, length, take, get_or, Some, refl, sym, ap, ◌∙◌, subst, ⊎_elim, arith}
 use Rattle.std.specs.Prelude.{◌==◌, ◌||◌, Contains}
 use Rattle.std.specs.List.{All, AllByRecursion, list_any}
 use Rattle.std.specs.Str.{bytes_eq}
-use Rattle.std.proofs.lemmas.List.{length-map}
+use Rattle.std.proofs.lemmas.List.{length-map, length-take-le, take_more}
 use Rattle.std.proofs.lemmas.List.Elements.{All-from_recursion}
 use Rattle.std.proofs.lemmas.Option.{slice_get_within}
 use Rattle.spu_word.specs.declared.limits.TheConstants.{DATA_START, STACK_TOP}
@@ -36,6 +36,15 @@ rooted_more entry names k (d ∷ cs) c =
     let e : suc k + length cs ≡ k + suc (length cs) = omega arith in
     ap (λ (fs : List Bool). ((k == entry) || is_one_of names d.name) ∷ fs)
     (rooted_more entry names (suc k) cs c ∙ ap (λ n. are_rooted entry names (suc k) cs ++ ((n == entry) || is_one_of names c.name) ∷ []) e)
+
+-- one more section
+pub rooted_next : (entry : ℕ) (names : List (List ℕ)) (cs : List CodeSection) (k : ℕ) (c : CodeSection) → k < length cs → c ≡ get_or cs k c → (old new : List Bool) (flag : Bool) → old ≡ are_rooted entry names 0 (take k cs) → new ≡ old ++ flag ∷ []
+    → flag ≡ ((k == entry) || is_one_of names c.name) → new ≡ are_rooted entry names 0 (take (k + 1) cs)
+rooted_next entry names cs k c lt is old new flag a b e =
+    let long : 0 + length (take k cs) ≡ k = (let n = length-take-le k cs (omega arith) in omega (arith, n)) in
+    b ∙ (ap (λ f. old ++ f ∷ []) e ∙ (ap (λ fs. fs ++ ((k == entry) || is_one_of names c.name) ∷ []) a
+    ∙ sym (ap (are_rooted entry names 0) (take_more cs k c lt ∙ ap (λ d. take k cs ++ d ∷ []) (sym is))
+    ∙ (rooted_more entry names 0 (take k cs) c ∙ ap (λ n. are_rooted entry names 0 (take k cs) ++ ((n == entry) || is_one_of names c.name) ∷ []) long))))
 
 -- ---- what it is made for
 

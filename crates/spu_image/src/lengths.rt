@@ -1,6 +1,6 @@
 //! How long the file of an executable is.
 
-ghost use Rattle.std.specs.Prelude.{◌≡◌, ◌+◌, ◌*◌, ◌^◌, ◌<◌, ◌≤◌, All, length};
+ghost use Rattle.std.specs.Prelude.{◌≡◌, ◌+◌, ◌*◌, ◌/◌, ◌^◌, ◌<◌, ◌≤◌, All, length};
 ghost use Rattle.spu_word.specs.declared.limits.TheConstants.{MAX_NAME_SIZE, STORE_SIZE};
 ghost use Rattle.spu_elf.specs.declared.constants.TheConstants.{MAX_SEGMENTS};
 ghost use Rattle.spu_elf.specs.declared.executables.Segment.{Segment};

@@ -1,7 +1,6 @@
 //! The plan of a program.
 
-ghost use Rattle.std.specs.Prelude.{◌≡◌, ◌≤◌, ℕ, List, Contains, IfErr, IfOk, OnOk};
-ghost use Rattle.std.specs.Prelude.{◌||◌};
+ghost use Rattle.std.specs.Prelude.{◌≡◌, ◌≤◌, ◌==◌, ◌||◌, ℕ, List, Contains, IfErr, IfOk, OnOk};
 ghost use Rattle.std.specs.Str.{bytes_eq};
 ghost use Rattle.spu_word.specs.declared.limits.TheConstants.{MAX_STACK_LIMIT};
 ghost use Rattle.spu_lift.specs.WellFormed.{IsWellFormed};
@@ -56,6 +55,13 @@ impl<'a> NameSet<'a> {
     }
 }
 
+/// Whether section k is to stay in the root: it is that of the entry, or has one of these names.
+fn is_rooted(k: usize, section: &CodeSection, entry: u32, names: &NameSet) -> bool
+    ensures { result ≡ ((k == entry) || has_name names.now section.now.name) }
+{
+    k == entry as usize || names.has(section.name.as_slice())
+}
+
 /// Whether each section of code is to stay in the root: the one of the entry, and those with these names.
 fn rooted(
     alloc: Global,
@@ -68,7 +74,7 @@ fn rooted(
     let names = NameSet::of(alloc, names)?;
     let mut rooted = Seq::new(alloc);
     for (k, section) in code.iter().enumerate() {
-        rooted.push(k == entry as usize || names.has(section.name.as_slice()))?;
+        rooted.push(is_rooted(k, section, entry, &names))?;
     }
     Ok(rooted)
 }

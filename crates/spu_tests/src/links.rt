@@ -1,12 +1,14 @@
 //! Links near the limits of the local store.
 
-ghost use Rattle.std.specs.Prelude.{◌≡◌, ◌≤◌, length, All, IfOk};
+ghost use Rattle.std.specs.Prelude.{◌≡◌, ◌≤◌, length, All, Contains, IfOk};
 ghost use Rattle.spu_word.specs.declared.limits.TheConstants.{MAX_OBJECTS};
 ghost use Rattle.spu_elf.specs.WellFormed.{IsWellFormed};
+ghost use Rattle.spu_plan.specs.declared.constants.TheConstants.{BUFFER_COUNTS, BUFFER_SIZES};
 
 use spu_asm::assemble;
 use spu_elf::Object;
 use spu_image::{LinkFault, LinkOptions, Linked, link};
+use spu_plan::Mode;
 use spu_word::{OutOfMemory, Seq};
 use std::alloc::Global;
 use std::test::Fail;
@@ -24,14 +26,20 @@ fn objects(alloc: Global, zeros: u32) -> Result<Seq<Object>, Fail>
     Ok(objects)
 }
 
-// What is asked for: no stack at all.
+// What is asked for: no stack at all, and no overlays.
 fn options(alloc: Global) -> Result<LinkOptions, OutOfMemory>
-    ensures { IfOk result (λ o. o.limit ≡ 0) }
+    ensures limit { IfOk result (λ o. o.limit ≡ 0) }
+    ensures buffers { IfOk result (λ o. Contains BUFFER_COUNTS o.buffers) }
+    ensures largest { IfOk result (λ o. Contains BUFFER_SIZES o.largest) }
 {
     Ok(LinkOptions {
         entry: Seq::copied(alloc, b"main")?,
         limit: 0,
+        mode: Mode::Never,
+        rooted: Seq::new(alloc),
         stack_syms: false,
+        buffers: 1,
+        largest: 16_384,
     })
 }
 

@@ -1,19 +1,21 @@
 //! The sample program with a frame, a call, a pointer call and a label in its data, judged, linked and run on both machines.
 
-ghost use Rattle.std.specs.Prelude.{◌≡◌, [], IfOk, IfSome};
+ghost use Rattle.std.specs.Prelude.{◌≡◌, [], Contains, IfOk, IfSome};
 ghost use Rattle.spu_elf.specs.Spelling.{spell_exec};
 ghost use Rattle.spu_elf.specs.Validity.{IsValidExec};
 ghost use Rattle.spu_ideal.specs.Samples.{tours, with_fields, with_operand};
 ghost use Rattle.spu_ls.specs.Loading.{IsAdmitted};
+ghost use Rattle.spu_plan.specs.declared.constants.TheConstants.{BUFFER_COUNTS, BUFFER_SIZES};
 ghost use Rattle.spu_ls.specs.View.{state_of};
 
 use spu_elf::Symbol;
 use spu_ideal::{Ideal, IdealEnd};
-use spu_image::{Linked, link_judged};
+use spu_image::{LinkOptions, Linked, link_judged};
 use spu_isa::{Inst, Op};
 use spu_judge::judge_program;
 use spu_lift::{CodeSection, Function, Label, NORMAL_END, Operand, Part, Prog, SymInst, WordLabel};
 use spu_ls::{Machine, RunEnd};
+use spu_plan::Mode;
 use spu_word::{Inputs, OutOfMemory, Seq};
 use std::alloc::Global;
 use std::test::Fail;
@@ -160,14 +162,32 @@ fn program(alloc: Global) -> Result<Prog, OutOfMemory>
     })
 }
 
+/// What is asked for: no overlays, and stack symbols.
+fn options(alloc: Global) -> Result<LinkOptions, OutOfMemory>
+    ensures limit { IfOk result (λ o. o.limit ≡ 16384) }
+    ensures buffers { IfOk result (λ o. Contains BUFFER_COUNTS o.buffers) }
+    ensures largest { IfOk result (λ o. Contains BUFFER_SIZES o.largest) }
+{
+    Ok(LinkOptions {
+        entry: Seq::copied(alloc, b"main")?,
+        limit: 16_384,
+        mode: Mode::Never,
+        rooted: Seq::new(alloc),
+        stack_syms: true,
+        buffers: 1,
+        largest: 16_384,
+    })
+}
+
 /// Its image with stack symbols, None where there is a fault.
 fn linked(alloc: Global) -> Result<Option<Linked>, OutOfMemory>
     ensures valid { IfOk result (λ o. IfSome o (λ i. IsValidExec i.exec)) }
     ensures file { IfOk result (λ o. IfSome o (λ i. i.file ≡ spell_exec i.exec)) }
 {
     let prog = program(alloc)?;
-    match judge_program(alloc, prog, 16_384) {
-        Ok(judged) => match link_judged(alloc, judged, 16_384, true) {
+    let options = options(alloc)?;
+    match judge_program(alloc, prog, options.limit) {
+        Ok(judged) => match link_judged(alloc, judged, &options) {
             Ok(image) => Ok(Some(image)),
             Err(_) => Ok(None),
         },
