@@ -7,7 +7,8 @@ use Rattle.std.proofs.lemmas.List.Sums.{fails_before_first}
 use Rattle.std.proofs.lemmas.List.Splits.{slice_split_none, slice_split_first, length-slice_split}
 use Rattle.std.specs.List.{list_all}
 use Rattle.spu_word.specs.declared.limits.TheConstants.{MAX_MAIL}
-use Rattle.spu_tool.specs.Lists.{first_comma, members_of, is_word, words_of, mail_of}
+use Rattle.spu_tool.specs.Lists.{first_comma, members_of, is_word, words_of, mail_of, names_of}
+use Rattle.spu_tool.specs.Names.{is_symbol_name}
 
 -- the first member ends before the first comma
 pub cut_at : (list : List ℕ) (i : ℕ) → first_comma list ≡ Some i → members_of list ≡ take i list ∷ members_of (drop (i + 1) list)
@@ -39,3 +40,9 @@ all_words list few all = grind (arith, nat_tests)
 
 pub no_word : (list : List ℕ) → list_all is_word (members_of list) ≡ false → mail_of list ≡ None
 no_word list h = grind (arith, nat_tests)
+
+pub all_names : (list : List ℕ) → list_all is_symbol_name (members_of list) ≡ true → names_of list ≡ Some (members_of list)
+all_names list all = rw all refl
+
+pub no_name : (list : List ℕ) → list_all is_symbol_name (members_of list) ≡ false → names_of list ≡ None
+no_name list h = rw h refl

@@ -1,25 +1,28 @@
 -- What the words ask for has its inputs, and sound options.
 use Rattle.std.proofs.Common.{◌≡◌, ℕ, ◌+◌, ◌==◌, ◌≤◌, lit≤, Bool, true, false, List, [], ◌∷◌, ◌++◌, length, Option, Some, None, Result, Ok, Err, refl, sym, subst, ap, ◌∙◌, ◌%◌, ◌<◌, arith, option_map}
 use Rattle.std.specs.Prelude.{◌&&◌, not, nat_lt, nat_le, if◌then◌else◌}
-use Rattle.std.specs.List.{All, list_all}
+use Rattle.std.specs.List.{All, Contains, list_all}
 use Rattle.std.proofs.lemmas.List.Elements.{All-nil, All-cons}
 use Rattle.std.proofs.lemmas.Bool.Decides.{nat_tests}
 use Rattle.std.proofs.lemmas.Bool.{and_parts, leb-true, ltb-true}
 use borrow.Author.Tests.{eqb-true}
 use Rattle.std.proofs.lemmas.List.{length-append, length-map}
+use Rattle.std.proofs.lemmas.Map.Views.{Contains-from_any}
 use Rattle.spu_word.specs.declared.limits.TheConstants.{MAX_AREAS, MAX_MAIL, MAX_STACK_LIMIT, QUAD_SIZE}
+use Rattle.spu_plan.specs.declared.constants.TheConstants.{BUFFER_COUNTS, BUFFER_SIZES}
+use Rattle.spu_plan.specs.declared.input.Mode.{Mode}
 use Rattle.spu_tool.specs.declared.options.OptionName.{OptionName}
-use Rattle.spu_tool.specs.declared.options.OptionName.TheVariants.{Steps, Mail, Area, Image, Stack, Entry, StackSyms}
+use Rattle.spu_tool.specs.declared.options.OptionName.TheVariants.{Steps, Mail, Area, Image, Stack, Entry, StackSyms, Overlay, Root, Buffers, Largest}
 use Rattle.spu_tool.specs.declared.options.Options.{Options}
 use Rattle.spu_tool.specs.declared.command.Command.{Command}
 use Rattle.spu_tool.specs.declared.command.Command.TheVariants.{Assemble, Link, Map, Embed, Run, Check}
 use Rattle.spu_tool.specs.declared.request.Action.{Action}
 use Rattle.spu_tool.specs.declared.request.Action.TheVariants as action
 use Rattle.spu_tool.specs.Numbers.{bounded, number_of, number_within, word_of}
-use Rattle.spu_tool.specs.Lists.{members_of, is_word, words_of, mail_of}
+use Rattle.spu_tool.specs.Lists.{members_of, is_word, words_of, mail_of, names_of}
 use Rattle.spu_tool.specs.Cutting.{cut_at}
 use Rattle.spu_tool.specs.Areas.{AreaParts, area_word, has_room, is_placed, place_of}
-use Rattle.spu_tool.specs.Options.{AreLinkSound, AreSound, once, with_steps, with_mail, with_place, with_image, with_stack, with_entry, with_stack_syms, if_multiple, image_of, stack_of, run_options, link_options, option_named}
+use Rattle.spu_tool.specs.Options.{AreLinkSound, AreSound, IsStackSize, once, with_steps, with_mail, with_place, with_image, with_stack, with_entry, with_stack_syms, with_overlay, with_root, with_buffers, with_largest, mode_named, if_among, if_multiple, is_among, buffers_of, image_of, size_of, stack_of, run_options, link_options, option_named}
 use Rattle.spu_tool.specs.Names.{is_symbol_name, symbol_name}
 use Rattle.spu_image.specs.declared.outcome.LinkOptions.{LinkOptions}
 use Rattle.spu_tool.specs.Arguments.{Given, Asked, with_area, with_option, with_named, with_parts, name_and_value, is_option, with_operand, with_word, with_words, nothing_given, of_two, asked_embed, asked_link, asked_read, asked_by, or_missing, asked_with, asked_after, asked, most_operands, has_option, is_operand, command_named, text_in}
@@ -91,6 +94,16 @@ multiple_is step (Some m) n e = by_test (m % step == 0) refl e
         (ap Some same, subst (λ k. k % step ≡ 0) same zero)
     by_test false is e' = absurd (cc)
 
+among_is : (numbers : List ℕ) (o : Option ℕ) (n : ℕ) → if_among numbers o ≡ Some n → Contains numbers n
+among_is numbers None n e = absurd (cc)
+among_is numbers (Some m) n e = by_test (is_among numbers m) refl e
+  where
+    by_test : (b : Bool) → is_among numbers m ≡ b → (if b then Some m else None) ≡ Some n → Contains numbers n
+    by_test true is e' =
+        let same : m ≡ n = cc in
+        subst (Contains numbers) same (Contains-from_any {eq = λ x y. y == x} (λ x y t. sym (eqb-true y x t)) m numbers is)
+    by_test false is e' = absurd (cc)
+
 -- `--stack-syms` is given
 syms_is : (before : Options) (value : Option (List ℕ)) (o : Options) → with_stack_syms before value ≡ Some o → record before { stack_syms = true } ≡ o
 syms_is before (Some value) o e = absurd (cc)
@@ -122,7 +135,7 @@ area_sound command given (Some a) g e h = step (has_room given.options.places a.
         let files = length-append given.files (a.file ∷ []) in
         let old = h.files in
         subst (Sound command) same (record {
-          link = record { whole = h.link.whole; low = h.link.low };
+          link = record { stack = h.link.stack; buffers = h.link.buffers; largest = h.link.largest };
           few = h.few;
           options = record {
             mail = h.options.mail;
@@ -162,16 +175,39 @@ option_sound command given Stack value g e h =
     let n = mapped (λ (k : ℕ). record given.options { stack = Some k }) (once given.options.stack (stack_of (text_in value))) o.0 o.1 in
     let a = multiple_is QUAD_SIZE (number_within MAX_STACK_LIMIT (text_in value)) n.0 (once_is given.options.stack (stack_of (text_in value)) n.0 n.1) in
     subst (Sound command) (ap (λ (x : Options). record given { options = x }) n.2 ∙ o.2)
-    (re_sound command given (record given.options { stack = Some n.0 }) h h.options (record { whole = a.1; low = within_is MAX_STACK_LIMIT (number_of (text_in value)) n.0 a.0 }) refl)
+    (re_sound command given (record given.options { stack = Some n.0 }) h h.options
+    (record { stack = record { whole = a.1; low = within_is MAX_STACK_LIMIT (number_of (text_in value)) n.0 a.0 }; buffers = h.link.buffers; largest = h.link.largest }) refl)
 option_sound command given Entry value g e h =
     let o = mapped (λ (x : Options). record given { options = x }) (with_entry given.options (text_in value)) g e in
     let n = mapped (λ (name : List ℕ). record given.options { entry = Some name }) (once given.options.entry (symbol_name (text_in value))) o.0 o.1 in
     subst (Sound command) (ap (λ (x : Options). record given { options = x }) n.2 ∙ o.2)
-    (re_sound command given (record given.options { entry = Some n.0 }) h h.options (record { whole = h.link.whole; low = h.link.low }) refl)
+    (re_sound command given (record given.options { entry = Some n.0 }) h h.options (record { stack = h.link.stack; buffers = h.link.buffers; largest = h.link.largest }) refl)
 option_sound command given StackSyms value g e h =
     let o = mapped (λ (x : Options). record given { options = x }) (with_stack_syms given.options value) g e in
     subst (Sound command) (ap (λ (x : Options). record given { options = x }) (syms_is given.options value o.0 o.1) ∙ o.2)
-    (re_sound command given (record given.options { stack_syms = true }) h h.options (record { whole = h.link.whole; low = h.link.low }) refl)
+    (re_sound command given (record given.options { stack_syms = true }) h h.options (record { stack = h.link.stack; buffers = h.link.buffers; largest = h.link.largest }) refl)
+option_sound command given Overlay value g e h =
+    let o = mapped (λ (x : Options). record given { options = x }) (with_overlay given.options (text_in value)) g e in
+    let m = mapped (λ (mode : Mode). record given.options { overlay = Some mode }) (once given.options.overlay (mode_named (text_in value))) o.0 o.1 in
+    subst (Sound command) (ap (λ (x : Options). record given { options = x }) m.2 ∙ o.2)
+    (re_sound command given (record given.options { overlay = Some m.0 }) h h.options (record { stack = h.link.stack; buffers = h.link.buffers; largest = h.link.largest }) refl)
+option_sound command given Root value g e h =
+    let o = mapped (λ (x : Options). record given { options = x }) (with_root given.options (text_in value)) g e in
+    let n = mapped (λ (names : List (List ℕ)). record given.options { rooted = Some names }) (once given.options.rooted (names_of (text_in value))) o.0 o.1 in
+    subst (Sound command) (ap (λ (x : Options). record given { options = x }) n.2 ∙ o.2)
+    (re_sound command given (record given.options { rooted = Some n.0 }) h h.options (record { stack = h.link.stack; buffers = h.link.buffers; largest = h.link.largest }) refl)
+option_sound command given Buffers value g e h =
+    let o = mapped (λ (x : Options). record given { options = x }) (with_buffers given.options (text_in value)) g e in
+    let n = mapped (λ (k : ℕ). record given.options { buffers = Some k }) (once given.options.buffers (buffers_of (text_in value))) o.0 o.1 in
+    let a = among_is BUFFER_COUNTS (word_of (text_in value)) n.0 (once_is given.options.buffers (buffers_of (text_in value)) n.0 n.1) in
+    subst (Sound command) (ap (λ (x : Options). record given { options = x }) n.2 ∙ o.2)
+    (re_sound command given (record given.options { buffers = Some n.0 }) h h.options (record { stack = h.link.stack; buffers = a; largest = h.link.largest }) refl)
+option_sound command given Largest value g e h =
+    let o = mapped (λ (x : Options). record given { options = x }) (with_largest given.options (text_in value)) g e in
+    let n = mapped (λ (k : ℕ). record given.options { largest = Some k }) (once given.options.largest (size_of (text_in value))) o.0 o.1 in
+    let a = among_is BUFFER_SIZES (word_of (text_in value)) n.0 (once_is given.options.largest (size_of (text_in value)) n.0 n.1) in
+    subst (Sound command) (ap (λ (x : Options). record given { options = x }) n.2 ∙ o.2)
+    (re_sound command given (record given.options { largest = Some n.0 }) h h.options (record { stack = h.link.stack; buffers = h.link.buffers; largest = a }) refl)
 
 named_sound : (command : Command) (given : Given) (name : Option OptionName) (value : Option (List ℕ)) (g : Given) → with_named command given name value ≡ Some g → Sound command given → Sound command g
 named_sound command given None value g e h = absurd (cc)
@@ -291,7 +327,7 @@ by_command Check given r h e =
     let more = length-append given.operands given.files in
     let few = h.few in
     let files = h.files in
-    subst Complete t.1 (omega (arith, more, files), omega (arith, more, few, files), (h.link, h.options))
+    subst Complete t.1 (omega (arith, more, files), omega (arith, more, few, files), (h.link.stack, h.options))
 
 asked_is : (o : Option Asked) (n : ℕ) (r : Asked) → or_missing o n ≡ Ok r → o ≡ Some r
 asked_is None n r e = absurd (cc)
@@ -306,7 +342,7 @@ none Run = tt
 none Check = tt
 
 nothing_sound : (command : Command) → Sound command nothing_given
-nothing_sound command = record { options = record { mail = lit≤ tt; few = lit≤ tt; placed = λ i j p q a b same. absurd (no p a); aligned = refl; near = lit≤ tt }; link = record { whole = refl; low = lit≤ tt }; few = omega arith; files = refl; named = none command }
+nothing_sound command = record { options = record { mail = lit≤ tt; few = lit≤ tt; placed = λ i j p q a b same. absurd (no p a); aligned = refl; near = lit≤ tt }; link = record { stack = record { whole = refl; low = lit≤ tt }; buffers = (0, lit≤ tt, refl); largest = (2, lit≤ tt, refl) }; few = omega arith; files = refl; named = none command }
   where
     no : (p : AreaPlace) → None ≡ Some p → ⊥
     no p e = cc

@@ -10,7 +10,7 @@ use Rattle.spu_io.specs.NameTable.{pointed_to}
 use Rattle.spu_tool.specs.declared.command.Command.{Command}
 use Rattle.spu_tool.specs.declared.command.Command.TheVariants.{Assemble, Link, Map, Embed, Run, Check}
 use Rattle.spu_tool.specs.declared.options.OptionName.{OptionName}
-use Rattle.spu_tool.specs.declared.options.OptionName.TheVariants.{Steps, Mail, Area, Image, Stack, Entry, StackSyms}
+use Rattle.spu_tool.specs.declared.options.OptionName.TheVariants.{Steps, Mail, Area, Image, Stack, Entry, StackSyms, Overlay, Root, Buffers, Largest}
 use Rattle.spu_tool.specs.declared.options.Options.{Options}
 use Rattle.spu_tool.specs.declared.arguments.ParseFault.{ParseFault}
 use Rattle.spu_tool.specs.declared.arguments.ParseFault.TheVariants as faults
@@ -20,7 +20,7 @@ use Rattle.spu_tool.specs.declared.request.Action.TheVariants as action
 use Rattle.spu_tool.specs.Cutting.{cut_at}
 use Rattle.spu_tool.specs.Areas.{AreaParts, area_word, has_room}
 use Rattle.spu_tool.specs.Names.{is_symbol_name}
-use Rattle.spu_tool.specs.Options.{option_named, no_options, with_steps, with_mail, with_place, with_image, with_stack, with_entry, with_stack_syms, run_options, link_options, check_options}
+use Rattle.spu_tool.specs.Options.{option_named, no_options, with_steps, with_mail, with_place, with_image, with_stack, with_entry, with_stack_syms, with_overlay, with_root, with_buffers, with_largest, run_options, link_options, check_options}
 
 -- ---- the commands
 
@@ -49,6 +49,10 @@ has_option Assemble name = false
 has_option Link Stack = true
 has_option Link Entry = true
 has_option Link StackSyms = true
+has_option Link Overlay = true
+has_option Link Root = true
+has_option Link Buffers = true
+has_option Link Largest = true
 has_option Link _ = false
 has_option Map name = false
 has_option Embed name = false
@@ -107,6 +111,10 @@ with_option given Image value = giving given (with_image given.options (text_in 
 with_option given Stack value = giving given (with_stack given.options (text_in value))
 with_option given Entry value = giving given (with_entry given.options (text_in value))
 with_option given StackSyms value = giving given (with_stack_syms given.options value)
+with_option given Overlay value = giving given (with_overlay given.options (text_in value))
+with_option given Root value = giving given (with_root given.options (text_in value))
+with_option given Buffers value = giving given (with_buffers given.options (text_in value))
+with_option given Largest value = giving given (with_largest given.options (text_in value))
 
 -- an option is one that the command has
 abbrev pub with_named : Command → Given → Option OptionName → Option (List ℕ) → Option Given

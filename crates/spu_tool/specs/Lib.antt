@@ -1,9 +1,9 @@
 pub mod Statuses
 pub mod Numbers
-pub mod Lists
 pub mod Cutting
 pub mod Areas
 pub mod Names
+pub mod Lists
 pub mod Options
 pub mod Arguments
 pub mod FaultLines

@@ -1,8 +1,9 @@
--- Lists on a command line, whose members stand between commas: the words of the inbound mailbox.
+-- Lists on a command line, whose members stand between commas: the words of the inbound mailbox, and the names of sections.
 use Rattle.std.specs.Prelude.{ℕ, ◌==◌, ◌&&◌, Bool, List, [], map, length, nat_le, Option, Some, None, is_some, unwrap_or, if◌then◌else◌}
 use Rattle.std.specs.Borrow.{Bor}
 use Rattle.std.specs.List.{list_all, position, slice_split}
 use Rattle.spu_word.specs.declared.limits.TheConstants.{MAX_MAIL}
+use Rattle.spu_tool.specs.Names.{is_symbol_name}
 use Rattle.spu_tool.specs.Numbers.{word_of}
 
 abbrev pub comma : ℕ
@@ -31,3 +32,7 @@ abbrev pub mail_of : List ℕ → Option (List ℕ)
 mail_of list =
     if nat_le (length (members_of list)) MAX_MAIL && list_all is_word (members_of list)
     then Some (words_of (members_of list)) else None
+
+-- the names that a list has: each may name a section, as it may name a symbol
+abbrev pub names_of : List ℕ → Option (List (List ℕ))
+names_of list = if list_all is_symbol_name (members_of list) then Some (members_of list) else None

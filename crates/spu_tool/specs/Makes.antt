@@ -19,6 +19,7 @@ use Rattle.spu_image.specs.declared.outcome.LinkFault.TheVariants as links
 use Rattle.spu_image.specs.declared.outcome.LinkOptions.{LinkOptions}
 use Rattle.spu_image.specs.Linking.{IsJudgedFrom, IsJudgeFault, IsLinked, IsLinkFault}
 use Rattle.spu_map.specs.Stacks.{stack_text}
+use Rattle.spu_plan.specs.declared.plan.Plan.{Plan}
 use Rattle.spu_graph.specs.Known.{need_of}
 use Rattle.spu_lift.specs.declared.program.Prog.{Prog}
 use Rattle.spu_frame.specs.Found.{frame_at}
@@ -89,10 +90,25 @@ abbrev pub stack_lines : Bool → Linked → List ℕ
 stack_lines true l = stack_text l.prog l.depths l.needs
 stack_lines false l = []
 
--- the summary of a flat image: how many functions it has beside the start code, the stack that they need, and where it ends
+abbrev pub kind_line : Bool → List ℕ
+kind_line false = codes "image flat\n"
+kind_line true = codes "image overlay\n"
+
+-- how many buffers there are, where there is more than one
+abbrev pub buffers_line : ℕ → List ℕ
+buffers_line n = if nat_lt 1 n then count_line (codes "buffers") n else []
+
+-- the regions of an overlay image, the size of its buffers, and their number
+abbrev pub region_lines : Plan → List ℕ
+region_lines plan =
+    if plan.overlay
+    then count_line (codes "regions") plan.regions ++ count_line (codes "buffer") plan.buffer ++ buffers_line plan.buffers else []
+
+-- the summary of an image: how many functions it has beside the start code, its regions, the stack that the functions need, and where
+-- it ends
 abbrev pub summary : Linked → ℕ → ℕ → Bool → List ℕ
 summary l need limit stack_syms =
-    codes "image flat\n" ++ count_line (codes "functions") (length l.prog.functions - 1)
+    kind_line l.plan.overlay ++ count_line (codes "functions") (length l.prog.functions - 1) ++ region_lines l.plan
     ++ share_line (codes "stack") need limit ++ share_line (codes "top") l.plan.end (STACK_TOP - limit) ++ stack_lines stack_syms l
 
 -- the objects are linked, and the need of the promise is printed

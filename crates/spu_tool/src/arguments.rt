@@ -127,6 +127,10 @@ impl<'a> Arguments<'a> {
             OptionName::Stack => Ok(self.options.take_stack(text.as_bytes())),
             OptionName::Entry => self.options.take_entry(alloc, text.as_bytes()),
             OptionName::StackSyms => Ok(self.options.take_stack_syms(value)),
+            OptionName::Overlay => Ok(self.options.take_overlay(text.as_bytes())),
+            OptionName::Root => self.options.take_root(alloc, text.as_bytes()),
+            OptionName::Buffers => Ok(self.options.take_buffers(text.as_bytes())),
+            OptionName::Largest => Ok(self.options.take_largest(text.as_bytes())),
         }
     }
 
@@ -376,6 +380,7 @@ pub fn parse<'a>(alloc: Global, words: &'a [String]) -> Result<Request<'a>, Pars
 #[cfg(test)]
 mod tests {
     use super::*;
+    use spu_plan::Mode;
     use std::test::Fail;
 
     // The words of a line, between blanks; `_` is the empty word.
@@ -464,6 +469,56 @@ mod tests {
             let words = words_of(rt.alloc(), line)?;
             let read = parse(rt.alloc(), &words).err();
             assert_eq!(rt; read, Some(ParseFault::Faulty(fault)), "at {line}");
+        }
+        Ok(())
+    }
+
+    #[test]
+    fn faults_of_overlay_options(rt: HostRuntime) -> Result<(), Fail> {
+        let cases = [
+            ("link a b --overlay=Auto", 4),
+            ("link a b --root=.text,", 4),
+            ("link a b --buffers=3", 4),
+            ("link a b --largest=512", 4),
+            ("check a --overlay=auto", 3),
+        ];
+        for (line, fault) in cases {
+            let words = words_of(rt.alloc(), line)?;
+            let read = parse(rt.alloc(), &words).err();
+            assert_eq!(rt; read, Some(ParseFault::Faulty(fault)), "at {line}");
+        }
+        Ok(())
+    }
+
+    // What a link is asked for: whether there are overlays, how many sections are to stay in the root, and its buffers.
+    fn overlays_of(action: &Action) -> Option<(Mode, usize, u32, u32)> {
+        match action {
+            Action::Link(options) => {
+                let rooted = options.rooted.len();
+                Some((options.mode, rooted, options.buffers, options.largest))
+            }
+            Action::Assemble | Action::Map | Action::Embed(_) => None,
+            Action::Run(_) | Action::Check(_) => None,
+        }
+    }
+
+    #[test]
+    fn overlays_are_asked_for(rt: HostRuntime) -> Result<(), Fail> {
+        let cases = [
+            ("link a b", Mode::Auto, 0, 1, 16_384),
+            (
+                "link --overlay=always --root=.text.f,g a --buffers=0x2 b --largest=65536",
+                Mode::Always,
+                2,
+                2,
+                65_536,
+            ),
+        ];
+        for (line, mode, rooted, buffers, largest) in cases {
+            let words = words_of(rt.alloc(), line)?;
+            let request = parse(rt.alloc(), &words).ok().ok_or("faulty")?;
+            let asked = overlays_of(&request.action);
+            assert_eq!(rt; asked, Some((mode, rooted, buffers, largest)));
         }
         Ok(())
     }

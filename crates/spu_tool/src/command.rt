@@ -63,12 +63,18 @@ impl Command {
             (Command::Run, OptionName::Steps | OptionName::Mail) => true,
             (Command::Run, OptionName::Area | OptionName::Image) => true,
             (Command::Run, OptionName::Stack | OptionName::Entry | OptionName::StackSyms) => false,
+            (Command::Run, OptionName::Overlay | OptionName::Root) => false,
+            (Command::Run, OptionName::Buffers | OptionName::Largest) => false,
             (Command::Link, OptionName::Stack | OptionName::Entry | OptionName::StackSyms) => true,
+            (Command::Link, OptionName::Overlay | OptionName::Root) => true,
+            (Command::Link, OptionName::Buffers | OptionName::Largest) => true,
             (Command::Link, OptionName::Steps | OptionName::Mail) => false,
             (Command::Link, OptionName::Area | OptionName::Image) => false,
             (Command::Check, OptionName::Stack | OptionName::Entry) => true,
             (Command::Check, OptionName::Steps | OptionName::Mail | OptionName::Area) => true,
             (Command::Check, OptionName::Image | OptionName::StackSyms) => false,
+            (Command::Check, OptionName::Overlay | OptionName::Root) => false,
+            (Command::Check, OptionName::Buffers | OptionName::Largest) => false,
             (Command::Assemble | Command::Map | Command::Embed, _) => false,
         }
     }

@@ -8,17 +8,19 @@ ghost use Rattle.spu_frame.specs.Found.{function_count as depth_count};
 ghost use Rattle.spu_image.specs.Linking.{IsLinkFault};
 ghost use Rattle.spu_tool.specs.Arguments.{texts_of};
 ghost use Rattle.spu_tool.specs.Options.{AreLinkSound};
-ghost use Rattle.spu_tool.specs.Makes.{MakesLink, LinksTo, LinksNot, ReadsOrNot, entry_need, made, stack_lines, summary};
+ghost use Rattle.spu_tool.specs.Makes.{MakesLink, LinksTo, LinksNot, ReadsOrNot, buffers_line, entry_need, kind_line, made, region_lines, stack_lines, summary};
 ghost use Rattle.spu_tool.specs.declared.status.Status.TheVariants as Status;
 
 use crate::fault_lines::elf_refusal;
 use crate::link_lines::{file_name, link_refusal};
 use crate::made::Made;
+use crate::runs::number_line;
 use crate::status::Status;
 use crate::texts::{count_line, share_line};
 use spu_elf::{ElfFault, Object, read_object};
 use spu_image::{LinkOptions, Linked, link};
 use spu_map::stack_text;
+use spu_plan::Plan;
 use spu_word::limits::STACK_TOP;
 use spu_word::{Bytes, OutOfMemory, Seq};
 use std::alloc::Global;
@@ -59,8 +61,43 @@ fn stack_lines(alloc: Global, linked: &Linked, stack_syms: bool) -> Result<Bytes
     }
 }
 
-/// The summary of a flat image: how many functions it has beside the start code, what they need of the stack, where it
-/// ends; and the functions' lines, where they are asked for.
+/// Whether an image has overlays.
+fn kind_line(overlay: bool) -> &'static str
+    ensures { result.now ≡ kind_line overlay }
+{
+    if overlay {
+        "image overlay\n"
+    } else {
+        "image flat\n"
+    }
+}
+
+/// The line of buffers, where there is more than one.
+fn buffers_line(alloc: Global, buffers: u32) -> Result<Bytes, OutOfMemory>
+    ensures { IfOk result (λ t. t ≡ buffers_line buffers) }
+{
+    if buffers > 1 {
+        number_line(alloc, "buffers", buffers)
+    } else {
+        Ok(Seq::new(alloc))
+    }
+}
+
+/// The regions of an overlay image, the size of its buffers, and their number.
+fn region_lines(alloc: Global, plan: &Plan) -> Result<Bytes, OutOfMemory>
+    ensures { IfOk result (λ t. t ≡ region_lines plan.now) }
+{
+    if !plan.overlay {
+        return Ok(Seq::new(alloc));
+    }
+    let mut text = number_line(alloc, "regions", plan.regions)?;
+    text.extend(number_line(alloc, "buffer", plan.buffer)?.as_slice())?;
+    text.extend(buffers_line(alloc, plan.buffers)?.as_slice())?;
+    Ok(text)
+}
+
+/// The summary of an image: how many functions it has beside the start code, its regions, what the functions need of the
+/// stack, where it ends; and the functions' lines, where they are asked for.
 fn summary(
     alloc: Global,
     linked: &Linked,
@@ -75,8 +112,9 @@ fn summary(
     ensures { IfOk result (λ t. t ≡ summary linked.now need limit stack_syms) }
 {
     let functions = linked.prog.functions.len() - 1;
-    let mut text = Seq::copied(alloc, b"image flat\n")?;
+    let mut text = Seq::copied(alloc, kind_line(linked.plan.overlay).as_bytes())?;
     text.extend(count_line(alloc, "functions", functions as u64)?.as_bytes())?;
+    text.extend(region_lines(alloc, &linked.plan)?.as_slice())?;
     text.extend(share_line(alloc, "stack", need, u64::from(limit))?.as_bytes())?;
     let (end, room) = (u64::from(linked.plan.end), u64::from(STACK_TOP - limit));
     text.extend(share_line(alloc, "top", end, room)?.as_bytes())?;

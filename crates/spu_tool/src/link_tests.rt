@@ -35,6 +35,29 @@ bi $0
 seven: .word 7
 ";
 
+// It calls a function of another section, which sends 5.
+const FAR: &[u8] = b".text
+.global main
+.type main,@function
+main:
+stqd $0,16($1)
+stqd $1,-32($1)
+ai $1,$1,-32
+brsl $0,f
+ai $1,$1,32
+lqd $0,16($1)
+bi $0
+.size main,.-main
+.section .text.f,\"ax\"
+.global f
+.type f,@function
+f:
+il $3,5
+wrch 28,$3
+bi $0
+.size f,.-f
+";
+
 // The text of a function `main` of these lines, with others behind it.
 pub fn main_of(alloc: Global, lines: &str, behind: &str) -> Result<String, OutOfMemory> {
     let front = ".text\n.global main\n.type main,@function\nmain:";
@@ -67,6 +90,34 @@ out 14\nstop 0x2000\nsteps 13
 image flat\nfunctions 1\nstack 0 of 16384\ntop 192 of 245728
 ";
     assert_eq!(rt; outside.out.as_slice(), text.as_slice());
+    Ok(())
+}
+
+#[test]
+fn links_with_overlays(rt: HostRuntime) -> Result<(), Fail> {
+    let alloc = rt.alloc();
+    let mut outside = Outside::new(alloc, None, None)?;
+    outside.files.hold("far.s", FAR)?;
+    let calls = [
+        "asm far.s far.o",
+        "link far.elf far.o --overlay=always",
+        "map far.elf",
+        "run far.elf",
+        "link root.elf far.o --overlay=always --root=.text.f --buffers=4",
+    ];
+    for line in calls {
+        assert_eq!(rt; outside.call(alloc, line)?, Status::Ok, "at {line}");
+    }
+    let text =
+        b"image overlay\nfunctions 2\nregions 1\nbuffer 16384\nstack 32 of 16384\ntop 17024 of 245728
+image overlay entry 144\nload 128 480\nregion 1 640 16 640
+object 528 16 __image_ea\nfunc 160 28 0 main\nfunc 640 12 1 f
+out 5\nstop 0x2000\nsteps 68
+image overlay\nfunctions 2\nregions 0\nbuffer 16384\nbuffers 4\nstack 32 of 16384\ntop 66304 of 245728
+";
+    assert_eq!(rt; outside.out.as_slice(), text.as_slice());
+    let size = outside.files.get("far.elf").map(|file| file.len());
+    assert_eq!(rt; size, Some(1016));
     Ok(())
 }
 

@@ -1,11 +1,12 @@
 //! Lists on a command line, whose members stand between commas.
 
 ghost use Rattle.std.specs.Prelude.{◌≡◌, ◌≤◌, ◌<◌, ◌∷◌, [], length, IfOk, IfSome};
-ghost use Rattle.spu_tool.specs.Lists.{first_comma, members_of, members_left, mail_of};
+ghost use Rattle.spu_tool.specs.Lists.{first_comma, members_of, members_left, mail_of, names_of};
 
+use crate::names::is_symbol_name;
 use crate::numbers::word_of;
 use spu_word::limits::MAX_MAIL;
-use spu_word::{OutOfMemory, Seq};
+use spu_word::{Name, OutOfMemory, Seq};
 use std::alloc::Global;
 
 // Where the first comma stands.
@@ -55,6 +56,24 @@ pub fn mail_of(alloc: Global, list: &[u8]) -> Result<Option<Seq<u32>>, OutOfMemo
         rest = after;
     }
     Ok(Some(words))
+}
+
+#[tactic(auto, using(crate::proofs::Members::all_names, crate::proofs::Members::no_name))]
+/// The names that a list has, each of which may name a section, as it may name a symbol.
+pub fn names_of(alloc: Global, list: &[u8]) -> Result<Option<Seq<Name>>, OutOfMemory>
+    ensures { IfOk result (λ names. names ≡ names_of list.now) }
+{
+    let mut names = Seq::new(alloc);
+    let mut rest = Some(list);
+    'members: while let Some(left) = rest {
+        let (member, after) = first_member(left);
+        if !is_symbol_name(member) {
+            return Ok(None);
+        }
+        names.push(Seq::copied(alloc, member)?)?;
+        rest = after;
+    }
+    Ok(Some(names))
 }
 
 #[cfg(test)]

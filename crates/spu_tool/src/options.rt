@@ -3,15 +3,17 @@
 ghost use Rattle.std.specs.Prelude.{◌≡◌, ◌<◌, IfOk, OnOk};
 ghost use Rattle.std.specs.Option.{option_map};
 ghost use Rattle.spu_tool.specs.Areas.{has_room};
-ghost use Rattle.spu_tool.specs.Numbers.{number_within};
-ghost use Rattle.spu_tool.specs.Options.{entry_name, if_multiple, image_of, stack_of};
+ghost use Rattle.spu_tool.specs.Numbers.{number_within, word_of};
+ghost use Rattle.spu_tool.specs.Options.{buffers_of, entry_name, if_among, if_multiple, image_of, is_among, mode_named, size_of, stack_of};
 
 use crate::areas::{AreaPlace, has_room};
-use crate::lists::mail_of;
+use crate::lists::{mail_of, names_of};
 use crate::names::is_symbol_name;
 use crate::numbers::{number_within, word_of};
 use spu_elf::constants::SEGMENT_ALIGN;
 use spu_image::LinkOptions;
+use spu_plan::Mode;
+use spu_plan::constants::{BUFFER_COUNTS, BUFFER_SIZES};
 use spu_word::limits::{MAX_STACK_LIMIT, QUAD_SIZE};
 use spu_word::{Name, OutOfMemory, Seq};
 use std::alloc::Global;
@@ -27,6 +29,12 @@ pub const MAX_IMAGE: u64 = 0xffff_ffff_ff80_0000;
 
 /// How many bytes the stack has, where the words don't say.
 pub const DEFAULT_LIMIT: u32 = 16_384;
+
+/// How many buffers an overlay image has, where the words don't say.
+pub const DEFAULT_BUFFERS: u32 = 1;
+
+/// The greatest size of its buffers in bytes, where the words don't say.
+pub const DEFAULT_LARGEST: u32 = 16_384;
 
 /// An option's name.
 #[derive(Clone, Copy, PartialEq, Eq, Debug)]
@@ -45,6 +53,14 @@ pub enum OptionName {
     Entry,
     /// `--stack-syms`
     StackSyms,
+    /// `--overlay=auto`, `--overlay=always` or `--overlay=never`.
+    Overlay,
+    /// `--root=A,B`, with the names of sections.
+    Root,
+    /// `--buffers=N`, with N of 1, 2, 4 and 8.
+    Buffers,
+    /// `--largest=B`, with B a power of two from 1,024 to 65,536.
+    Largest,
 }
 
 impl OptionName {
@@ -68,6 +84,14 @@ impl OptionName {
             Some(OptionName::Entry)
         } else if name == b"--stack-syms".as_slice() {
             Some(OptionName::StackSyms)
+        } else if name == b"--overlay".as_slice() {
+            Some(OptionName::Overlay)
+        } else if name == b"--root".as_slice() {
+            Some(OptionName::Root)
+        } else if name == b"--buffers".as_slice() {
+            Some(OptionName::Buffers)
+        } else if name == b"--largest".as_slice() {
+            Some(OptionName::Largest)
         } else {
             None
         }
@@ -102,6 +126,52 @@ fn stack_of(text: &[u8]) -> Option<u32>
     }
 }
 
+// Whether a number is one of these.
+fn is_among(numbers: &[u32], number: u32) -> bool
+    ensures { result ≡ is_among numbers.now number }
+{
+    numbers.iter().any(|other| *other == number)
+}
+
+// The number of these that a text writes.
+fn number_among(text: &[u8], numbers: &[u32]) -> Option<u32>
+    ensures { result ≡ if_among numbers.now (word_of text.now) }
+{
+    match word_of(text) {
+        Some(number) if is_among(numbers, number) => Some(number),
+        Some(_) | None => None,
+    }
+}
+
+// How many buffers a text asks for.
+fn buffers_of(text: &[u8]) -> Option<u32>
+    ensures { result ≡ buffers_of text.now }
+{
+    number_among(text, &BUFFER_COUNTS)
+}
+
+// The greatest size of a buffer that a text asks for.
+fn size_of(text: &[u8]) -> Option<u32>
+    ensures { result ≡ size_of text.now }
+{
+    number_among(text, &BUFFER_SIZES)
+}
+
+// Whether there are overlays, by name.
+fn mode_named(value: &[u8]) -> Option<Mode>
+    ensures { result ≡ mode_named value.now }
+{
+    if value == b"auto".as_slice() {
+        Some(Mode::Auto)
+    } else if value == b"always".as_slice() {
+        Some(Mode::Always)
+    } else if value == b"never".as_slice() {
+        Some(Mode::Never)
+    } else {
+        None
+    }
+}
+
 /// The options that were given: each is None where no word gives it.
 #[derive(Drop)]
 pub struct Options {
@@ -112,6 +182,10 @@ pub struct Options {
     pub stack: Option<u32>,
     pub entry: Option<Name>,
     pub stack_syms: bool,
+    pub overlay: Option<Mode>,
+    pub rooted: Option<Seq<Name>>,
+    pub buffers: Option<u32>,
+    pub largest: Option<u32>,
 }
 
 /// The options of a check.
@@ -149,7 +223,7 @@ fn entry_name(alloc: Global, entry: Option<Name>) -> Result<Name, OutOfMemory>
 }
 
 impl Options {
-    ghost use Rattle.spu_tool.specs.Options.{no_options, with_steps, with_mail, with_place, with_image, with_stack, with_entry, with_stack_syms, IsTaken, run_options, link_options, check_options};
+    ghost use Rattle.spu_tool.specs.Options.{no_options, with_steps, with_mail, with_place, with_image, with_stack, with_entry, with_stack_syms, with_overlay, with_root, with_buffers, with_largest, IsTaken, run_options, link_options, check_options};
 
     /// No option was given.
     pub fn new(alloc: Global) -> Options
@@ -163,6 +237,10 @@ impl Options {
             stack: None,
             entry: None,
             stack_syms: false,
+            overlay: None,
+            rooted: None,
+            buffers: None,
+            largest: None,
         }
     }
 
@@ -237,6 +315,50 @@ impl Options {
         }
     }
 
+    /// Takes the value of `--overlay`, and answers whether it is new and a mode.
+    pub fn take_overlay(&mut self, value: &[u8]) -> bool
+        ensures { IsTaken (with_overlay self.old value.now) self.new result }
+    {
+        if self.overlay.is_some() {
+            return false;
+        }
+        self.overlay = mode_named(value);
+        self.overlay.is_some()
+    }
+
+    /// Takes the value of `--root`, and answers whether it is new and has names alone.
+    pub fn take_root(&mut self, alloc: Global, value: &[u8]) -> Result<bool, OutOfMemory>
+        ensures { IfOk result (IsTaken (with_root self.old value.now) self.new) }
+    {
+        if self.rooted.is_some() {
+            return Ok(false);
+        }
+        self.rooted = names_of(alloc, value)?;
+        Ok(self.rooted.is_some())
+    }
+
+    /// Takes the value of `--buffers`, and answers whether it is new and a count.
+    pub fn take_buffers(&mut self, value: &[u8]) -> bool
+        ensures { IsTaken (with_buffers self.old value.now) self.new result }
+    {
+        if self.buffers.is_some() {
+            return false;
+        }
+        self.buffers = buffers_of(value);
+        self.buffers.is_some()
+    }
+
+    /// Takes the value of `--largest`, and answers whether it is new and a size.
+    pub fn take_largest(&mut self, value: &[u8]) -> bool
+        ensures { IsTaken (with_largest self.old value.now) self.new result }
+    {
+        if self.largest.is_some() {
+            return false;
+        }
+        self.largest = size_of(value);
+        self.largest.is_some()
+    }
+
     /// Whether there is room for one more area, and none before has its name.
     pub fn has_room(&self, name: &[u8]) -> bool
         ensures { result ≡ has_room self.now.places name.now }
@@ -271,7 +393,11 @@ impl Options {
         Ok(LinkOptions {
             entry: entry_name(alloc, self.entry)?,
             limit: self.stack.unwrap_or(DEFAULT_LIMIT),
+            mode: self.overlay.unwrap_or(Mode::Auto),
+            rooted: self.rooted.unwrap_or(Seq::new(alloc)),
             stack_syms: self.stack_syms,
+            buffers: self.buffers.unwrap_or(DEFAULT_BUFFERS),
+            largest: self.largest.unwrap_or(DEFAULT_LARGEST),
         })
     }
 

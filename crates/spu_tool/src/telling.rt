@@ -8,7 +8,7 @@ use std::alloc::Global;
 use std::io;
 
 const USAGE: &str =
-    "asm IN OUT | link OUT IN.. [--stack=N] [--entry=NAME] [--stack-syms] | map IN | embed NAME IN OUT | run IN [--steps=N] [--mail=N,N] [--area=NAME:EA:FILE] [--image=EA] | check IN.. [--stack=N] [--entry=NAME] [--steps=N] [--mail=N,N] [--area=NAME:EA:FILE]";
+    "asm IN OUT | link OUT IN.. [--stack=N] [--entry=NAME] [--stack-syms] [--overlay=auto|always|never] [--root=A,B] [--buffers=N] [--largest=B] | map IN | embed NAME IN OUT | run IN [--steps=N] [--mail=N,N] [--area=NAME:EA:FILE] [--image=EA] | check IN.. [--stack=N] [--entry=NAME] [--steps=N] [--mail=N,N] [--area=NAME:EA:FILE]";
 
 /// The words of a command, or of all.
 fn usage(words: &[String]) -> &'static str {
@@ -17,7 +17,8 @@ fn usage(words: &[String]) -> &'static str {
         .and_then(|word| Command::named(word.as_bytes()))
     {
         Some(Command::Assemble) => "asm IN OUT",
-        Some(Command::Link) => "link OUT IN.. [--stack=N] [--entry=NAME] [--stack-syms]",
+        Some(Command::Link) =>
+            "link OUT IN.. [--stack=N] [--entry=NAME] [--stack-syms] [--overlay=auto|always|never] [--root=A,B] [--buffers=N] [--largest=B]",
         Some(Command::Map) => "map IN",
         Some(Command::Embed) => "embed NAME IN OUT",
         Some(Command::Run) => "run IN [--steps=N] [--mail=N,N] [--area=NAME:EA:FILE] [--image=EA]",

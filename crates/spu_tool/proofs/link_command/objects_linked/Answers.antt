@@ -15,7 +15,7 @@ pub linked_made-requires-clause-some : goal.linked_made-requires-clause-some
 linked_made-requires-clause-some c = some_there _ _ c.in-Ok.ensures.linked.judged.judgement.judged.formed.start
 
 pub linked_made-requires-clause-limit : goal.linked_made-requires-clause-limit
-linked_made-requires-clause-limit c = let low = c.requires.sound.low in omega (arith, low)
+linked_made-requires-clause-limit c = let low = c.requires.sound.stack.low in omega (arith, low)
 
 pub returns-in-Ok : goal.returns-in-Ok
 returns-in-Ok c = linked_if c.args.options.now (texts_of c.args.names.now) c.args.objects.now c.in-Ok.linked c.linked_made.result c.in-Ok.ensures.linked c.linked_made.ensures
