@@ -83,7 +83,7 @@ module _ (p : Prog) (plan : Plan) (few : plan.regions ≤ length p.code) (l : La
       omega (arith, few, all, both, none, these, others)
 
   -- of so many functions behind the first
-  tail_long : (passage : List ℕ) (functions : ℕ) → length passage ≡ 4 * functions + 66 → length (tail p plan l passage offset) ≡ 16 * functions + 272 + 16 * plan.buffers + 48 + 16 * (length p.code + 1)
+  pub tail_long : (passage : List ℕ) (functions : ℕ) → length passage ≡ 4 * functions + 66 → length (tail p plan l passage offset) ≡ 16 * functions + 272 + 16 * plan.buffers + 48 + 16 * (length p.code + 1)
   tail_long passage functions long =
       let own = words_length (passage ++ 0 ∷ 0 ∷ []) in
       let words = length-append passage (0 ∷ 0 ∷ []) in
