@@ -2,7 +2,7 @@
 use Rattle.std.proofs.Common.{◌≡◌, ◌≢◌, ℕ, zero, suc, ◌+◌, ◌-◌, ◌*◌, ◌/◌, ◌%◌, ◌^◌, ◌≤◌, ◌<◌, ◌⊎◌, true, List, [], ◌∷◌, ◌++◌, length, drop, map, get_or, replicate, Option, Some, None, refl, sym, ap, ◌∙◌, inl, inr, subst, append_assoc, arith}
 use Rattle.std.specs.Prelude.{slice_get, slice_index}
 use Rattle.std.specs.List.{flat_map, range_with_len}
-use Rattle.std.proofs.lemmas.List.{length-append, length-drop, length-replicate}
+use Rattle.std.proofs.lemmas.List.{get_or_append_left, length-append, length-drop, length-replicate}
 use Rattle.std.proofs.lemmas.Option.{slice_get_within}
 use Rattle.spu_word.specs.Bytes.{be_digits, quad_of}
 use Rattle.spu_word.specs.declared.limits.TheConstants.{DATA_START, MAX_TRANSFER_SIZE, STORE_SIZE}
