@@ -254,10 +254,12 @@ module _ (p : Prog) (plan : Plan) (limit : ℕ) (well : IsWellFormed p) (planned
         let stubs = stub_words in
         let others = length-drop 1 p.functions in
         let long = code_long in
+        let same : 1 + f ≡ suc f = omega arith in
         let i : ℕ = 4 * f + n in
         instruction_there i (l.entry (suc f) + 4 * n) (omega (arith, long, lt, few)) (omega arith)
         ∙ (get_front (stub_codes (loader_start p plan) l 1 (drop 1 p.functions)) (loader_code o.loader) i (omega (arith, stubs, lt, few))
-        ∙ stub_at (loader_start p plan) l 1 (drop 1 p.functions) f n (omega (arith, others, few)) lt)
+        ∙ (stub_at (loader_start p plan) l 1 (drop 1 p.functions) f n (omega (arith, others, few)) lt
+        ∙ ap (λ h. slice_get (stub_code o.loader.base (l.entry h) (l.region h) (l.at h 0)) n) same))
 
     pub stub_is : (f : ℕ) → f ≢ 0 → IsPlace p f 0 → IsStub o (l.entry f) (l.region f) (l.at f 0) m
     stub_is zero some place = absurd (some refl)
