@@ -56,3 +56,15 @@ pub mod OverlayPlans
 pub mod Overlaying
 pub mod Tails
 pub mod OverlayImages
+pub mod Carrying
+pub mod LoaderRelations
+pub mod Surroundings
+pub mod OverlayHops
+pub mod SectionWords
+pub mod StoreParts
+pub mod SegmentPlaces
+pub mod OverlaySymbols
+pub mod OverlayPlaces
+pub mod OverlayWords
+pub mod OverlayStarts
+pub mod PlannedHeadlines

@@ -1,7 +1,9 @@
 //! Laws of links and of the words that they make.
 
-ghost use Rattle.std.specs.Prelude.{◌≡◌, ◌≤◌, ◌∷◌, [], ℕ, List, Option, Some, All, Contains, pos};
+ghost use Rattle.std.specs.Prelude.{◌≡◌, ◌≤◌, ◌∷◌, [], ℕ, List, Option, Some, All, Contains, length, pos, true};
 ghost use Rattle.spu_word.specs.Bytes.{word_of};
+ghost use Rattle.spu_word.specs.declared.limits.TheConstants.{MAX_FILE_SIZE};
+ghost use Rattle.spu_elf.specs.Spelling.{spell_exec};
 ghost use Rattle.spu_elf.specs.declared.executables.Exec.{Exec};
 ghost use Rattle.spu_isa.specs.declared.operation.Op.TheVariants as op;
 ghost use Rattle.spu_isa.specs.Table.{Decodes};
@@ -20,10 +22,12 @@ ghost use Rattle.spu_ideal.specs.Samples.{nothing, tours, with_fields};
 ghost use Rattle.spu_ideal.specs.States.{IsJudged};
 ghost use Rattle.spu_layout.specs.Layouts.{AreDisjoint, IsFlat, Layout, areas, is_between};
 ghost use Rattle.spu_layout.specs.Placing.{FitsFlat, layout_of};
+ghost use Rattle.spu_layout.specs.Planned.{IsPlanned};
 ghost use Rattle.spu_elf.specs.declared.objects.Object.{Object};
 ghost use Rattle.spu_elf.specs.WellFormed.{IsWellFormed as IsWellFormedObject};
 ghost use Rattle.spu_judge.specs.declared.outcome.Judged.{Judged};
 ghost use Rattle.spu_image.specs.Images.{IsFlatExec};
+ghost use Rattle.spu_image.specs.Overlays.{IsOverlayExec};
 ghost use Rattle.spu_image.specs.Linking.{IsJudgedFrom, IsJudgeFault, IsLinked, IsLinkFault};
 ghost use Rattle.spu_image.specs.declared.outcome.Linked.{Linked};
 ghost use Rattle.spu_image.specs.declared.outcome.LinkFault.{LinkFault};
@@ -49,6 +53,12 @@ pub fn flat_images_can_start()
 pub fn flat_images_keep_the_promise()
     ensures { (p : Prog) (frames : ℕ → ℕ) (need : ℕ) → IsJudged p frames need → (plan : Plan) (limit : ℕ) → need ≤ limit → FitsFlat p plan limit → (told : ℕ → Option ℕ) (x : Exec) (file : List ℕ)
         → IsFlatExec p (layout_of p plan limit) limit told x → Headline p (layout_of p plan limit) frames limit need x file }
+{}
+
+/// An executable of a judged program by a plan with overlays keeps the promise of a link, with the file that it is spelled as.
+pub fn overlay_images_keep_the_promise()
+    ensures { (p : Prog) (frames : ℕ → ℕ) (need : ℕ) → IsJudged p frames need → (plan : Plan) (limit : ℕ) → need ≤ limit → IsPlanned p plan limit → plan.overlay ≡ true → (told : ℕ → Option ℕ) (x : Exec) (file : List ℕ)
+        → IsOverlayExec p plan (layout_of p plan limit) limit told x → file ≡ spell_exec x → length file ≤ MAX_FILE_SIZE → Headline p (layout_of p plan limit) frames limit need x file }
 {}
 
 /// In a flat layout each hop is one step.
