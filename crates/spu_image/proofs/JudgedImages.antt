@@ -25,9 +25,9 @@ use Rattle.spu_image.specs.declared.outcome.LinkFault.{LinkFault}
 use Rattle.spu_image.specs.declared.outcome.LinkFault.TheVariants as faults
 use Rattle.spu_image.specs.declared.outcome.LinkOptions.{LinkOptions}
 use Rattle.spu_image.proofs.Execs.{exec_small, exec_valid, told_alike}
-use Rattle.spu_image.proofs.FlatImages.{flat_headline}
 use Rattle.spu_image.proofs.NeedBounds.{told_small}
-use Rattle.spu_image.proofs.ProgramPlans.{planned, planned_flat}
+use Rattle.spu_image.proofs.PlannedHeadlines.{made_headline}
+use Rattle.spu_image.proofs.ProgramPlans.{planned}
 
 -- ---- needs that are told
 
@@ -71,17 +71,17 @@ module _ (j : Judged) (o : LinkOptions) (judged : IsJudgement j.prog o.limit j) 
       pub too_large : (size : ℕ) → size ≡ length (spell_exec x) → MAX_FILE_SIZE < size → IsFileTooLarge p o needs size
       too_large size e over = record { plan = plan; planned = is_plan; exec = x; image = image; is = e; over = over }
 
-      pub linked : (file : List ℕ) → file ≡ spell_exec x → IsValidExec x → IsImage o (record { exec = x; file = file; prog = p; depths = j.depths; needs = j.needs; plan = plan; layout = layout })
-      linked file e v = record {
+      pub linked : (file : List ℕ) → file ≡ spell_exec x → length (spell_exec x) ≤ MAX_FILE_SIZE → IsImage o (record { exec = x; file = file; prog = p; depths = j.depths; needs = j.needs; plan = plan; layout = layout })
+      linked file e short = record {
         plan = is_plan;
         layout = is;
         functions = count;
         image = image;
-        valid = v;
+        valid = valid short;
         file = e;
         need = judged.need;
         entry = judged.entry;
-        headline = λ none. flat_headline p (frame_at j.depths) judged.need judged.judged plan o.limit judged.least (planned_flat p plan o.limit planned_so none) needs x file (image.flat none);
+        headline = made_headline p (frame_at j.depths) judged.need judged.judged plan o.limit judged.least planned_so needs x file image.flat image.overlays e (subst (λ (n : ℕ). n ≤ MAX_FILE_SIZE) (ap length (sym e)) short);
       }
 
 -- ---- refusals

@@ -47,7 +47,7 @@ pub record IsImage (o : LinkOptions) (l : Linked) : Type 0 where
   pub file : l.file ≡ spell_exec l.exec
   pub need : ℕ
   pub entry : need_of l.needs l.prog.entry ≡ Some need
-  pub headline : l.plan.overlay ≡ false → Headline l.prog (layout_of l.prog l.plan o.limit) (frame_at l.depths) o.limit need l.exec l.file
+  pub headline : Headline l.prog (layout_of l.prog l.plan o.limit) (frame_at l.depths) o.limit need l.exec l.file
 
 -- L20: no image that the mode permits ends below the stack
 abbrev pub IsPlanTooLarge : Prog → LinkOptions → ℕ → ℕ → Type 0

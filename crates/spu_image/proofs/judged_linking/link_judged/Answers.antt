@@ -40,7 +40,4 @@ returns-clause-image c =
     linked c.args.judged c.args.options.now c.requires.judged c.requires.limit c.requires.buffers c.requires.largest c.in_ok-plan.plan c.in_ok-plan.ensures.plan c.in_ok-layout.layout c.in_ok-layout.ensures.layout c.in_ok-layout.ensures.functions
     c.in_ok-told.told.items (λ f lt. c.in_ok-told.ensures f (omega (arith, lt, c.len-count.ensures.value)))
     c.in_ok-exec.exec (subst (λ (t : List (Option ℕ)). IsExec c.args.judged.prog c.in_ok-plan.plan c.args.options.now.limit (told_in t) c.in_ok-exec.exec) c.deref.ensures.value c.in_ok-exec.ensures)
-    c.in_ok-file.file c.in_ok-file.ensures.spelling (valid c.args.judged c.args.options.now c.requires.judged c.requires.limit c.requires.buffers c.requires.largest c.in_ok-plan.plan c.in_ok-plan.ensures.plan c.in_ok-layout.layout c.in_ok-layout.ensures.layout c.in_ok-layout.ensures.functions
-    c.in_ok-told.told.items (λ f lt. c.in_ok-told.ensures f (omega (arith, lt, c.len-count.ensures.value)))
-    c.in_ok-exec.exec (subst (λ (t : List (Option ℕ)). IsExec c.args.judged.prog c.in_ok-plan.plan c.args.options.now.limit (told_in t) c.in_ok-exec.exec) c.deref.ensures.value c.in_ok-exec.ensures)
-    (omega (arith, c.from.ensures, c.if-size-from.false, c.file_len-size.ensures)))
+    c.in_ok-file.file c.in_ok-file.ensures.spelling (omega (arith, c.from.ensures, c.if-size-from.false, c.file_len-size.ensures))
