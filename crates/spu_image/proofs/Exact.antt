@@ -1,8 +1,7 @@
 -- Objects are linked or have a fault, and never both.
-use Rattle.std.proofs.Common.{◌≡◌, ℕ, ◌^◌, ◌<◌, Bool, true, false, List, length, Option, Some, refl, sym, subst, arith}
+use Rattle.std.proofs.Common.{◌≡◌, ℕ, Bool, true, false, length, Option, refl, subst, arith}
 use Rattle.std.specs.Prelude.{Contains}
 use Rattle.spu_elf.specs.declared.executables.Exec.{Exec}
-use Rattle.spu_elf.specs.Spelling.{spell_exec}
 use Rattle.spu_elf.specs.Validity.{IsValidExec}
 use Rattle.spu_lift.specs.declared.program.Prog.{Prog}
 use Rattle.spu_lift.specs.WellFormed.{IsWellFormed}

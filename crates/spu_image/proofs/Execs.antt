@@ -6,7 +6,6 @@ use Rattle.std.proofs.lemmas.List.{length-drop}
 use Rattle.spu_word.specs.declared.limits.TheConstants.{MAX_FILE_SIZE, QUAD_SIZE}
 use Rattle.spu_word.specs.declared.sequence.OutOfMemory.{OutOfMemory}
 use Rattle.spu_elf.specs.declared.executables.Exec.{Exec}
-use Rattle.spu_elf.specs.declared.objects.Symbol.{Symbol}
 use Rattle.spu_elf.specs.Spelling.{spell_exec}
 use Rattle.spu_elf.specs.Validity.{IsValidExec}
 use Rattle.spu_lift.specs.declared.program.Function.{Function}

@@ -1,12 +1,12 @@
 -- How long the file of an executable is, segment by segment.
-use Rattle.std.proofs.Common.{◌≡◌, ℕ, suc, ◌+◌, ◌*◌, ◌/◌, ◌%◌, ◌<◌, ◌≤◌, List, [], ◌∷◌, length, drop, get_or, map, refl, sym, ap, ◌∙◌, arith}
+use Rattle.std.proofs.Common.{◌≡◌, ℕ, suc, ◌+◌, ◌*◌, ◌/◌, ◌<◌, ◌≤◌, List, [], ◌∷◌, length, drop, get_or, map, refl, sym, ap, ◌∙◌, arith}
 use Rattle.std.proofs.lemmas.List.{at_drop_more, at_drop_all}
 use Rattle.spu_elf.specs.declared.writing.lengths.Extent.{Extent}
 use Rattle.spu_elf.specs.declared.executables.Segment.{Segment}
 use Rattle.spu_elf.specs.declared.executables.Exec.{Exec}
 use Rattle.spu_elf.specs.declared.objects.Symbol.{Symbol}
 use Rattle.spu_elf.specs.Rows.{begins, front_size, padding, segment_name}
-use Rattle.spu_elf.specs.Lengths.{blank_extent, ended_len, grown, segments_grown, strings_len, tables_grown, whole_len}
+use Rattle.spu_elf.specs.Lengths.{ended_len, segments_grown, strings_len, tables_grown, whole_len}
 use Rattle.spu_elf.specs.Spelling.{spell_exec}
 use Rattle.spu_elf.proofs.DraftLemmas.{no_padding_1}
 use Rattle.spu_elf.proofs.ExtentLemmas.{spell_exec_length}

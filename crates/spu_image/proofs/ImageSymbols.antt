@@ -11,7 +11,7 @@ use Rattle.std.proofs.lemmas.Fmt.{digits_is_IsNumeral}
 use Rattle.std.proofs.lemmas.List.{length-append, length-drop, length-map}
 use Rattle.std.proofs.lemmas.Option.{slice_get_within}
 use Rattle.std.proofs.lemmas.List.Elements.{All-append, All-cons, All-from_recursion, All-map, All-nil}
-use Rattle.spu_word.specs.declared.limits.TheConstants.{MAX_NAME_SIZE, MAX_OBJECTS, MAX_SYMBOLS, STORE_SIZE}
+use Rattle.spu_word.specs.declared.limits.TheConstants.{MAX_NAME_SIZE, STORE_SIZE}
 use Rattle.spu_elf.specs.declared.objects.Symbol.{Symbol}
 use Rattle.spu_elf.specs.declared.objects.SymKind.TheVariants as kinds
 use Rattle.spu_elf.specs.Spelling.{locals}

@@ -1,5 +1,5 @@
 -- The image of a judged program, as the code makes it.
-use Rattle.std.proofs.Common.{◌≡◌, ℕ, ◌^◌, ◌<◌, ◌≤◌, Bool, true, false, List, length, Option, Some, refl, subst}
+use Rattle.std.proofs.Common.{◌≡◌, ℕ, ◌^◌, ◌<◌, ◌≤◌, Bool, true, false, List, length, Option, Some}
 use Rattle.std.specs.Prelude.{Contains}
 use Rattle.spu_word.specs.declared.limits.TheConstants.{MAX_FILE_SIZE, MAX_STACK_LIMIT}
 use Rattle.spu_elf.specs.declared.executables.Exec.{Exec}
@@ -20,9 +20,7 @@ use Rattle.spu_layout.specs.Planned.{IsPlanned}
 use Rattle.spu_layout.specs.Views.{function_count, layout_in}
 use Rattle.spu_image.specs.Filling.{IsLaidOutBy, IsSmall, told_in}
 use Rattle.spu_image.specs.Planning.{plan_input}
-use Rattle.spu_image.specs.JudgedLinking.{IsExec, IsFileTooLarge, IsImage, IsImageRefused, IsPlanRefused, told_of}
-use Rattle.spu_image.specs.declared.outcome.LinkFault.{LinkFault}
-use Rattle.spu_image.specs.declared.outcome.LinkFault.TheVariants as faults
+use Rattle.spu_image.specs.JudgedLinking.{IsExec, IsFileTooLarge, IsImage, told_of}
 use Rattle.spu_image.specs.declared.outcome.LinkOptions.{LinkOptions}
 use Rattle.spu_image.proofs.Execs.{exec_small, exec_valid, told_alike}
 use Rattle.spu_image.proofs.NeedBounds.{told_small}
@@ -83,14 +81,3 @@ module _ (j : Judged) (o : LinkOptions) (judged : IsJudgement j.prog o.limit j) 
         entry = judged.entry;
         headline = made_headline p (frame_at j.depths) judged.need judged.judged plan o.limit judged.least planned_so needs x file image.flat image.overlays e (subst (λ (n : ℕ). n ≤ MAX_FILE_SIZE) (ap length (sym e)) short);
       }
-
--- ---- refusals
-
-pub plan_refused : (j : Judged) (o : LinkOptions) (e : LinkFault) → IsPlanRefused j.prog o e → IsImageRefused j o e
-plan_refused j o (faults.TooLarge least room) h = h
-plan_refused j o faults.OutOfMemory h = tt
-plan_refused j o (faults.Lift fault) h = absurd h
-plan_refused j o (faults.Frame kind name offset) h = absurd h
-plan_refused j o (faults.Recursion names) h = absurd h
-plan_refused j o (faults.StackLimit need told) h = absurd h
-plan_refused j o (faults.FileTooLarge size) h = absurd h

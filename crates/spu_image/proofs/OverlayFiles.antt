@@ -1,12 +1,11 @@
 -- The executable of a program with overlays has a file, if that isn't too large.
-use Rattle.std.proofs.Common.{◌≡◌, ℕ, zero, suc, ◌+◌, ◌-◌, ◌*◌, ◌%◌, ◌^◌, ◌<◌, ◌≤◌, true, false, List, [], ◌∷◌, ◌++◌, length, map, Option, Some, refl, sym, ap, ap₂, ◌∙◌, subst, arith, lit≤, lit<}
+use Rattle.std.proofs.Common.{◌≡◌, ℕ, zero, suc, ◌+◌, ◌-◌, ◌*◌, ◌%◌, ◌^◌, ◌<◌, ◌≤◌, true, false, List, [], ◌∷◌, length, map, Option, Some, refl, sym, ap, ap₂, ◌∙◌, subst, arith, lit<}
 use Rattle.std.specs.Prelude.{slice_get, slice_index_or}
 use Rattle.std.specs.List.{All, range_with_len}
 use Rattle.std.proofs.lemmas.List.{length-map}
 use Rattle.std.proofs.lemmas.List.Elements.{All-cons, All-nil}
 use Rattle.std.proofs.lemmas.Option.{slice_get_within}
 use Rattle.spu_word.specs.declared.limits.TheConstants.{DATA_START, MAX_FILE_SIZE, MAX_NAME_SIZE, QUAD_SIZE, STACK_TOP, STORE_SIZE, WORD_SIZE}
-use Rattle.spu_elf.specs.declared.constants.TheConstants.{MAX_SEGMENTS}
 use Rattle.spu_elf.specs.declared.objects.Symbol.{Symbol}
 use Rattle.spu_elf.specs.declared.executables.Segment.{Segment}
 use Rattle.spu_elf.specs.declared.executables.Exec.{Exec}
@@ -15,13 +14,12 @@ use Rattle.spu_elf.specs.Validity.{AreLocalsFirst, AreOverlays, IsExecSymbol, Is
 use Rattle.spu_lift.specs.declared.program.CodeSection.{CodeSection}
 use Rattle.spu_lift.specs.declared.program.Prog.{Prog}
 use Rattle.spu_lift.specs.StartCode.{start_code}
-use Rattle.spu_lift.specs.WellFormed.{IsCallee, IsWellFormed}
+use Rattle.spu_lift.specs.WellFormed.{IsWellFormed}
 use Rattle.spu_plan.specs.declared.plan.Plan.{Plan}
 use Rattle.spu_plan.specs.Plans.{rounded}
 use Rattle.spu_plan.specs.Cuts.{AreCut}
-use Rattle.spu_layout.specs.declared.layout.Span.{Span}
 use Rattle.spu_layout.specs.Layouts.{IsLaid, Layout}
-use Rattle.spu_layout.specs.Placing.{constants_start, layout_of, overlay_layout, region, region_size, region_start, section_sizes, sizes_of, table_end}
+use Rattle.spu_layout.specs.Placing.{constants_start, overlay_layout, region_size, region_start, sizes_of, table_end}
 use Rattle.spu_layout.specs.Planned.{IsPlanned}
 use Rattle.spu_layout.proofs.Flats.{ends_behind}
 use Rattle.spu_layout.proofs.Overlaid.{planned_is_laid}

@@ -1,5 +1,5 @@
 -- What a plan with overlays that is made for a program has: its buffers, how many regions, and where they end.
-use Rattle.std.proofs.Common.{◌≡◌, ℕ, zero, suc, ◌+◌, ◌*◌, ◌/◌, ◌^◌, ◌<◌, ◌≤◌, List, [], ◌∷◌, length, get_or, Option, Some, None, inl, inr, refl, sym, ap, ◌∙◌, ⊎_elim, subst, lit≤, arith}
+use Rattle.std.proofs.Common.{◌≡◌, ℕ, zero, suc, ◌+◌, ◌*◌, ◌/◌, ◌^◌, ◌<◌, ◌≤◌, List, [], ◌∷◌, length, get_or, Option, Some, None, inl, inr, refl, sym, ap, ⊎_elim, subst, lit≤, arith}
 use Rattle.std.specs.Prelude.{slice_get, true, Contains, if◌then◌else◌}
 use Rattle.std.specs.List.{AllByRecursion}
 use Rattle.std.proofs.Math.Nat.{mul-le-mul_left}
@@ -11,7 +11,6 @@ use Rattle.spu_lift.specs.WellFormed.{IsWellFormed}
 use Rattle.spu_plan.specs.declared.constants.TheConstants.{BUFFER_COUNTS, BUFFER_SIZES, MAX_BUFFER_SIZE}
 use Rattle.spu_plan.specs.declared.plan.Plan.{Plan}
 use Rattle.spu_plan.specs.Choices.{IsFlatPlan, IsOverlayPlan}
-use Rattle.spu_layout.specs.Layouts.{Layout}
 use Rattle.spu_layout.specs.Placing.{buffers_start, flat_layout, layout_of, overlay_layout, region, region_of_function, table_end}
 use Rattle.spu_layout.specs.Planned.{IsPlanned}
 use Rattle.spu_layout.specs.Views.{LieInStore}

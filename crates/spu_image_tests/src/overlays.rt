@@ -1,6 +1,7 @@
 //! Images with overlays of small programs, word by word, and programs that have none.
 
-ghost use Rattle.std.specs.Prelude.{◌≤◌, ◌↔◌, Contains, IsTrue};
+ghost use Rattle.std.specs.Prelude.{◌≤◌, Contains};
+ghost use Rattle.std.specs.Bool.{OnTrue};
 ghost use Rattle.spu_word.specs.declared.limits.TheConstants.{MAX_STACK_LIMIT};
 ghost use Rattle.spu_plan.specs.declared.constants.TheConstants.{BUFFER_COUNTS, BUFFER_SIZES};
 ghost use Rattle.spu_lift.specs.WellFormed.{IsWellFormed};
@@ -288,7 +289,9 @@ fn options(
 
 /// Whether a link may be asked for this.
 fn are_allowed(options: &LinkOptions) -> bool
-    ensures { IsTrue result ↔ ((options.now.limit ≤ MAX_STACK_LIMIT) × Contains BUFFER_COUNTS options.now.buffers × Contains BUFFER_SIZES options.now.largest) }
+    ensures limit { OnTrue result (options.now.limit ≤ MAX_STACK_LIMIT) }
+    ensures buffers { OnTrue result (Contains BUFFER_COUNTS options.now.buffers) }
+    ensures largest { OnTrue result (Contains BUFFER_SIZES options.now.largest) }
 {
     options.limit <= MAX_STACK_LIMIT
         && BUFFER_COUNTS.contains(&options.buffers)
@@ -303,12 +306,13 @@ fn linked_program(
 ) -> Option<Result<Linked, LinkFault>>
     requires { IsWellFormed prog }
 {
-    if !are_allowed(options) {
-        return None;
-    }
-    match judge_program(alloc, prog, options.limit) {
-        Ok(judged) => Some(link_judged(alloc, judged, options)),
-        Err(_) => None,
+    if are_allowed(options) {
+        match judge_program(alloc, prog, options.limit) {
+            Ok(judged) => Some(link_judged(alloc, judged, options)),
+            Err(_) => None,
+        }
+    } else {
+        None
     }
 }
 
@@ -438,12 +442,10 @@ fn three_regions_share_two_buffers(rt: HostRuntime) -> Result<(), Fail> {
     );
     match exec.segments.as_slice() {
         [root, first, second, third] => {
-            for (k, w) in ROOT_OF_THREE.iter().enumerate() {
-                assert_eq!(rt;
-                    word(root.bytes.as_slice(), 4 * k as u32),
-                    Some(*w),
-                    "word {k}"
-                );
+            let mut at: u32 = 0;
+            for w in ROOT_OF_THREE {
+                assert_eq!(rt; word(root.bytes.as_slice(), at), Some(w), "at {at}");
+                at = at.saturating_add(4);
             }
             assert_eq!(rt;
                 (
@@ -459,10 +461,7 @@ fn three_regions_share_two_buffers(rt: HostRuntime) -> Result<(), Fail> {
                 (528, 528, 528)
             );
             // the call in the second region goes by a stub
-            assert_eq!(rt;
-                word(second.bytes.as_slice(), 4),
-                Some(0x3300_0000 + 0x7f3d80)
-            );
+            assert_eq!(rt; word(second.bytes.as_slice(), 4), Some(0x337f_3d80));
         }
         _ => return Err("not four segments".into()),
     }
