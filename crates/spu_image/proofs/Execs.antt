@@ -1,9 +1,10 @@
 -- The executable of a program by a plan that is made for it, flat or with overlays: how large it is, and that it has a file.
-use Rattle.std.proofs.Common.{◌≡◌, ℕ, suc, ◌+◌, ◌^◌, ◌<◌, ◌≤◌, true, false, List, [], ◌∷◌, ◌++◌, length, drop, map, Option, Some, refl, sym, ap, ◌∙◌, subst, inl, inr, arith}
+use Rattle.std.proofs.Common.{◌≡◌, ℕ, suc, ◌+◌, ◌^◌, ◌<◌, ◌≤◌, true, false, List, [], ◌∷◌, ◌++◌, length, drop, map, Option, Some, Result, Ok, Err, IfOk, refl, sym, ap, ◌∙◌, subst, inl, inr, arith}
 use Rattle.std.specs.Prelude.{not}
 use Rattle.std.proofs.lemmas.Bool.{cases_Bool}
 use Rattle.std.proofs.lemmas.List.{length-drop}
 use Rattle.spu_word.specs.declared.limits.TheConstants.{MAX_FILE_SIZE, QUAD_SIZE}
+use Rattle.spu_word.specs.declared.sequence.OutOfMemory.{OutOfMemory}
 use Rattle.spu_elf.specs.declared.executables.Exec.{Exec}
 use Rattle.spu_elf.specs.declared.objects.Symbol.{Symbol}
 use Rattle.spu_elf.specs.Spelling.{spell_exec}
@@ -18,13 +19,16 @@ use Rattle.spu_layout.specs.Placing.{constants_start, layout_of, overlay_layout}
 use Rattle.spu_layout.specs.Planned.{IsPlanned}
 use Rattle.spu_image.specs.Images.{IsFlatExec, data_symbol, function_symbols, stack_name, stack_symbol_by, stack_symbols}
 use Rattle.spu_image.specs.Overlays.{IsOverlayExec, image_symbol}
-use Rattle.spu_image.specs.Filling.{IsSmall}
+use Rattle.spu_image.specs.Filling.{IsSmall, told_in}
 use Rattle.spu_image.specs.JudgedLinking.{IsExec}
 use Rattle.spu_image.proofs.FileLengths.{length_alike}
 use Rattle.spu_image.proofs.FlatFiles.{flat_segments, flat_small, flat_valid}
 use Rattle.spu_image.proofs.OverlayFiles.{overlay_sizes, overlay_small, overlay_valid}
 use Rattle.spu_image.proofs.OverlayPlans.{layout_is}
 use Rattle.spu_image.proofs.ProgramPlans.{planned_flat}
+
+true_false : true ≡ false → ⊥
+true_false e = cc
 
 -- ---- needs that are told
 
@@ -103,3 +107,19 @@ module _ (p : Prog) (well : IsWellFormed p) (plan : Plan) (limit : ℕ) (planned
       | inl over ↦ overlay_valid p well plan limit planned over told x (overlaid x over image) small
       | inr flat ↦ flat_valid p well plan limit (planned_flat p plan limit planned flat) told x (image.flat flat) small
     ]
+
+-- ---- of either kind
+
+pub flat_exec_is : (p : Prog) (plan : Plan) (limit : ℕ) (told : ℕ → Option ℕ) (x : Exec) (l : Layout) → l ≡ layout_of p plan limit → plan.overlay ≡ false → IsFlatExec p l limit told x → IsExec p plan limit told x
+flat_exec_is p plan limit told x l is none image = record { flat = λ e. subst (λ l. IsFlatExec p l limit told x) is image; overlays = λ e. absurd (true_false (sym e ∙ none)) }
+
+pub overlay_exec_is : (p : Prog) (plan : Plan) (limit : ℕ) (told : ℕ → Option ℕ) (x : Exec) (l : Layout) → l ≡ layout_of p plan limit → plan.overlay ≡ true → IsOverlayExec p plan l limit told x → IsExec p plan limit told x
+overlay_exec_is p plan limit told x l is some image = record { flat = λ e. absurd (true_false (sym some ∙ e)); overlays = λ e. subst (λ l. IsOverlayExec p plan l limit told x) is image }
+
+pub if_flat : (p : Prog) (plan : Plan) (limit : ℕ) (told : List (Option ℕ)) (r : Result Exec OutOfMemory) (l : Layout) → l ≡ layout_of p plan limit → plan.overlay ≡ false → IfOk r (IsFlatExec p l limit (told_in told)) → IfOk r (IsExec p plan limit (told_in told))
+if_flat p plan limit told (Ok x) l is none h = flat_exec_is p plan limit (told_in told) x l is none h
+if_flat p plan limit told (Err e) l is none h = tt
+
+pub if_overlay : (p : Prog) (plan : Plan) (limit : ℕ) (told : List (Option ℕ)) (r : Result Exec OutOfMemory) (l : Layout) → l ≡ layout_of p plan limit → plan.overlay ≡ true → IfOk r (IsOverlayExec p plan l limit (told_in told)) → IfOk r (IsExec p plan limit (told_in told))
+if_overlay p plan limit told (Ok x) l is some h = overlay_exec_is p plan limit (told_in told) x l is some h
+if_overlay p plan limit told (Err e) l is some h = tt

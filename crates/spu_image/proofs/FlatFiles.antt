@@ -53,7 +53,7 @@ module _ (p : Prog) (well : IsWellFormed p) (limit : ℕ) (below : (planned p).e
   data_low : p.data_end + 32 ≤ (planned p).end
   data_low = omega arith
 
-  pub flat_sizes : sizes x.segments ≡ (planned p).end - DATA_START ∷ []
+  pub flat_sizes : sizes x.segments ≡ ((planned p).end - DATA_START) ∷ []
   flat_sizes = (let e : length image.bytes ≡ (planned p).end - DATA_START = (let end = ends in omega (arith, end)) in ap sizes image.segments ∙ ap (λ n. n ∷ []) e)
 
   module _ (small : (f v : ℕ) → told f ≡ Some v → v < 2 ^ 32) where
@@ -67,7 +67,7 @@ module _ (p : Prog) (well : IsWellFormed p) (limit : ℕ) (below : (planned p).e
     planned_small = record {
       few_segments = subst (λ (ss : List Segment). length ss ≤ MAX_SEGMENTS) (sym image.segments) (lit≤ tt);
       small = subst (All (λ (s : Segment). length s.bytes ≤ STORE_SIZE)) (sym image.segments) (All-cons (λ (s : Segment). length s.bytes ≤ STORE_SIZE) (one_segment image.bytes) [] (let end = ends in omega (arith, end, below)) (All-nil (λ (s : Segment). length s.bytes ≤ STORE_SIZE)));
-      few_symbols = subst (λ (ss : List Symbol). length ss ≤ 2 ^ 26) (sym image.symbols) (few_flat p well l told);
+      few_symbols = subst (λ (ss : List Symbol). length ss ≤ 2 ^ 27) (sym image.symbols) (few_flat p well l told);
       short = subst (All (λ (s : Symbol). length s.name ≤ MAX_NAME_SIZE)) (sym image.symbols) (names_short 1 (symbols_of p l told) symbols_valid);
     }
 
@@ -94,8 +94,8 @@ module _ (p : Prog) (well : IsWellFormed p) (plan : Plan) (limit : ℕ) (fits : 
   by_planned : IsFlatExec p (layout_of p (planned p) limit) limit told x
   by_planned = subst (λ q. IsFlatExec p (layout_of p q limit) limit told x) fits.planned image
 
-  pub flat_segments : sizes x.segments ≡ plan.end - DATA_START ∷ []
-  flat_segments = flat_sizes p well limit below told x by_planned ∙ ap (λ (q : Plan). q.end - DATA_START ∷ []) (sym fits.planned)
+  pub flat_segments : sizes x.segments ≡ (plan.end - DATA_START) ∷ []
+  flat_segments = flat_sizes p well limit below told x by_planned ∙ ap (λ (q : Plan). (q.end - DATA_START) ∷ []) (sym fits.planned)
 
   module _ (small : (f v : ℕ) → told f ≡ Some v → v < 2 ^ 32) where
     pub flat_small : IsSmall x

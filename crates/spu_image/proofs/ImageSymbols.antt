@@ -1,5 +1,5 @@
 -- The symbols of a program's executable, flat or with overlays: their names, places and order.
-use Rattle.std.proofs.Common.{◌≡◌, ℕ, suc, ◌+◌, ◌^◌, ◌<◌, ◌≤◌, Bool, true, false, List, [], ◌∷◌, ◌++◌, length, drop, map, Option, Some, None, codes, refl, sym, ap, ◌∙◌, subst, inl, inr, append_assoc, arith, lit≤, lit<}
+use Rattle.std.proofs.Common.{◌≡◌, ℕ, suc, ◌+◌, ◌-◌, ◌^◌, ◌<◌, ◌≤◌, Bool, true, false, List, [], ◌∷◌, ◌++◌, length, drop, map, Option, Some, None, codes, refl, sym, ap, ◌∙◌, subst, inl, inr, append_assoc, arith, lit≤, lit<}
 use Rattle.std.specs.Prelude.{if◌then◌else◌, nat_eq, nat_le, slice_get, not}
 use Rattle.std.specs.Char.{digit_value}
 use Rattle.std.specs.Fmt.{digits}
@@ -187,7 +187,7 @@ module _ (p : Prog) (well : IsWellFormed p) (l : Layout) (told : ℕ → Option 
 
   -- ---- their number
 
-  few_parts : length own_locals + length stacks + length own_globals + length datas ≤ 2 ^ 26 - 1
+  few_parts : length own_locals + length stacks + length own_globals + length datas ≤ 2 ^ 26
   few_parts =
       let gs : List Function = drop 1 p.functions in
       let few = well.few_globals in
@@ -199,7 +199,7 @@ module _ (p : Prog) (well : IsWellFormed p) (l : Layout) (told : ℕ → Option 
       let w = few_functions l (λ (g : Function). g.global) 1 gs in
       omega (arith, d, m, n, u, v, w, few)
 
-  pub few_flat : length (symbols_of p l told) ≤ 2 ^ 26
+  pub few_flat : length (symbols_of p l told) ≤ 2 ^ 27
   few_flat =
       let few = few_parts in
       let a = length-append ((own_locals ++ stacks) ++ own_globals) datas in
@@ -207,7 +207,7 @@ module _ (p : Prog) (well : IsWellFormed p) (l : Layout) (told : ℕ → Option 
       let c = length-append own_locals stacks in
       omega (arith, few, a, b, c)
 
-  pub few_overlay : (at : ℕ) → length (overlay_symbols p l at told) ≤ 2 ^ 26
+  pub few_overlay : (at : ℕ) → length (overlay_symbols p l at told) ≤ 2 ^ 27
   few_overlay at =
       let few = few_parts in
       let a = length-append (((own_locals ++ stacks) ++ image_symbol at ∷ []) ++ own_globals) datas in

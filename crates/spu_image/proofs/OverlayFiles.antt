@@ -108,7 +108,7 @@ module _ (p : Prog) (well : IsWellFormed p) (plan : Plan) (limit : ℕ) (planned
 
     -- ---- segments
 
-    pub overlay_sizes : sizes x.segments ≡ table_end p plan - DATA_START ∷ map (region_size p plan) (range_with_len 1 plan.regions)
+    pub overlay_sizes : sizes x.segments ≡ (table_end p plan - DATA_START) ∷ map (region_size p plan) (range_with_len 1 plan.regions)
     overlay_sizes =
         ap sizes image.segments ∙ ap₂ (λ (m : ℕ) (ms : List ℕ). m ∷ ms) root_size (sizes_in (region_segment p plan image.sections) (region_size p plan) 1 plan.regions size_is)
 
@@ -147,7 +147,7 @@ module _ (p : Prog) (well : IsWellFormed p) (plan : Plan) (limit : ℕ) (planned
         few_segments = (let n = segment_count in let m = few in omega (arith, n, m));
         small = subst (All (λ (s : Segment). length s.bytes ≤ STORE_SIZE)) (sym image.segments)
             (All-cons (λ (s : Segment). length s.bytes ≤ STORE_SIZE) root_of others (let is = root_size in let end = table_low in omega (arith, is, end)) small_others);
-        few_symbols = subst (λ (ss : List Symbol). length ss ≤ 2 ^ 26) (sym image.symbols) (few_overlay p well l told (constants_start p plan + QUAD_SIZE));
+        few_symbols = subst (λ (ss : List Symbol). length ss ≤ 2 ^ 27) (sym image.symbols) (few_overlay p well l told (constants_start p plan + QUAD_SIZE));
         short = subst (All (λ (s : Symbol). length s.name ≤ MAX_NAME_SIZE)) (sym image.symbols) (names_short (suc plan.regions) (overlay_symbols p l (constants_start p plan + QUAD_SIZE) told) symbols_valid);
       }
 

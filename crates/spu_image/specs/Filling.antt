@@ -136,7 +136,7 @@ has_name set name = contains_by (λ k. bytes_eq name k.now) set.names
 pub record IsSmall (x : Exec) : Type 0 where
   pub few_segments : length x.segments ≤ MAX_SEGMENTS
   pub small : All (λ (s : Segment). length s.bytes ≤ STORE_SIZE) x.segments
-  pub few_symbols : length x.symbols ≤ 2 ^ 26
+  pub few_symbols : length x.symbols ≤ 2 ^ 27
   pub short : All (λ (s : Symbol). length s.name ≤ MAX_NAME_SIZE) x.symbols
 
 -- where the segments end of a file, from number k on, and how long their names are, each with a zero behind it, if so far they are these

@@ -39,7 +39,7 @@ fn ended_len(n: u64) -> u64
 
 /// How long the table of the names of symbols is.
 fn strings_len(symbols: &[Symbol]) -> u64
-    requires few { length symbols.now ≤ 2 ^ 26 }
+    requires few { length symbols.now ≤ 2 ^ 27 }
     requires short { All (λ (s : Symbol). length s.name ≤ MAX_NAME_SIZE) symbols.now }
     ensures value { result ≡ strings_len symbols.now }
     ensures small { result ≤ 1 + 1024 * length symbols.now }
