@@ -22,7 +22,7 @@ use Rattle.spu_tool.specs.Numbers.{bounded, number_of, number_within, word_of}
 use Rattle.spu_tool.specs.Lists.{members_of, is_word, words_of, mail_of, names_of}
 use Rattle.spu_tool.specs.Cutting.{cut_at}
 use Rattle.spu_tool.specs.Areas.{AreaParts, area_word, has_room, is_placed, place_of}
-use Rattle.spu_tool.specs.Options.{AreLinkSound, AreSound, IsStackSize, once, with_steps, with_mail, with_place, with_image, with_stack, with_entry, with_stack_syms, with_overlay, with_root, with_buffers, with_largest, mode_named, if_among, if_multiple, is_among, buffers_of, image_of, size_of, stack_of, run_options, link_options, option_named}
+use Rattle.spu_tool.specs.Options.{AreLinkSound, AreSound, once, with_steps, with_mail, with_place, with_image, with_stack, with_entry, with_stack_syms, with_overlay, with_root, with_buffers, with_largest, mode_named, if_among, if_multiple, is_among, buffers_of, image_of, size_of, stack_of, run_options, link_options, option_named}
 use Rattle.spu_tool.specs.Names.{is_symbol_name, symbol_name}
 use Rattle.spu_image.specs.declared.outcome.LinkOptions.{LinkOptions}
 use Rattle.spu_tool.specs.Arguments.{Given, Asked, with_area, with_option, with_named, with_parts, name_and_value, is_option, with_operand, with_word, with_words, nothing_given, of_two, asked_embed, asked_link, asked_read, asked_by, or_missing, asked_with, asked_after, asked, most_operands, has_option, is_operand, command_named, text_in}
