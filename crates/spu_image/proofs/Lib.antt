@@ -50,3 +50,5 @@ pub mod Tables
 pub mod Overlaying
 pub mod Tails
 pub mod OverlayImages
+pub mod Growing
+pub mod Tellings

@@ -3,6 +3,7 @@ pub mod Words
 pub mod Matching
 pub mod Images
 pub mod Headline
+pub mod Endings
 pub mod Filling
 pub mod Overlays
 pub mod OverlayFilling

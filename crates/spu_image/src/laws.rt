@@ -29,6 +29,7 @@ ghost use Rattle.spu_image.specs.declared.outcome.LinkFault.{LinkFault};
 ghost use Rattle.spu_image.specs.declared.outcome.LinkFault.TheVariants as faults;
 ghost use Rattle.spu_image.specs.declared.outcome.LinkOptions.{LinkOptions};
 ghost use Rattle.spu_image.specs.Headline.{CanStart, Headline};
+ghost use Rattle.spu_image.specs.Endings.{TellsRuns};
 ghost use Rattle.spu_image.specs.Samples.{tour_after, tour_layout};
 
 /// Well-formed objects that are judged or linked have none of the faults that refuse them: a fault is told exactly where one
@@ -48,6 +49,14 @@ pub fn flat_images_can_start()
 pub fn flat_images_keep_the_promise()
     ensures { (p : Prog) (frames : ℕ → ℕ) (need : ℕ) → IsJudged p frames need → (plan : Plan) (limit : ℕ) → need ≤ limit → FitsFlat p plan limit → (told : ℕ → Option ℕ) (x : Exec) (file : List ℕ)
         → IsFlatExec p (layout_of p plan limit) limit told x → Headline p (layout_of p plan limit) frames limit need x file }
+{}
+
+/// What the promise of a link says of hops tells of the machine's run of the image: where the symbolic run ends inside after k
+/// steps, the machine's has ended alike after at most 1 + 256 k, and as long as it stays inside, what the machine sends begins
+/// with what the symbolic run has sent.
+#[tactic(auto, using(crate::proofs::Tellings::tells))]
+pub fn runs_tell_how_machines_end()
+    ensures { (p : Prog) (l : Layout) (frames : ℕ → ℕ) (limit need : ℕ) (x : Exec) (file : List ℕ) → Headline p l frames limit need x file → TellsRuns p l frames limit x file }
 {}
 
 /// In a flat layout each hop is one step.
