@@ -1,8 +1,8 @@
 -- A step of the machine counts itself and takes back nothing that was sent, and a machine that has ended stays.
-use Rattle.std.proofs.Common.{◌≡◌, ℕ, zero, suc, ◌+◌, List, [], ◌∷◌, ◌++◌, Option, Some, None, refl, sym, ap, ◌∙◌}
+use Rattle.std.proofs.Common.{◌≡◌, ℕ, zero, suc, ◌+◌, List, [], ◌∷◌, ◌++◌, Option, Some, None, refl, sym, ap, ◌∙◌, arith}
 use Rattle.std.specs.Prelude.{◌==◌, length}
 use Rattle.std.proofs.lemmas.Bool.{cond_both}
-use Rattle.std.proofs.lemmas.List.{append-nil, append-assoc}
+use Rattle.std.proofs.lemmas.List.{append-nil, append_assoc}
 use Rattle.spu_word.specs.Bytes.{word_of}
 use Rattle.spu_word.specs.declared.limits.TheConstants.{OUTBOX_SIZE, QUEUE_SIZE, WORD_SIZE}
 use Rattle.spu_isa.specs.declared.operation.Op.{Op}
@@ -28,7 +28,7 @@ same : (xs ys : List ℕ) → ys ≡ xs → IsBeginning xs ys
 same xs ys e = record { rest = []; is = e ∙ sym (append-nil xs) }
 
 pub longer : (xs ys zs : List ℕ) → IsBeginning xs ys → IsBeginning ys zs → IsBeginning xs zs
-longer xs ys zs a b = record { rest = a.rest ++ b.rest; is = b.is ∙ ap (λ l. l ++ b.rest) a.is ∙ append-assoc xs a.rest b.rest }
+longer xs ys zs a b = record { rest = a.rest ++ b.rest; is = b.is ∙ ap (λ l. l ++ b.rest) a.is ∙ append_assoc xs a.rest b.rest }
 
 -- ---- what each instruction does
 
@@ -135,5 +135,5 @@ steps_stay (suc n) s r e = ap (steps n) (step_stays r s e) ∙ steps_stay n s r 
 
 pub steps_add : (a b : ℕ) (s : State) → steps (a + b) s ≡ steps b (steps a s)
 unfolding steps
-steps_add zero b s = refl
-steps_add (suc a) b s = steps_add a b (step s)
+steps_add zero b s = let e : 0 + b ≡ b = omega arith in ap (λ n. steps n s) e
+steps_add (suc a) b s = let e : suc a + b ≡ suc (a + b) = omega arith in ap (λ n. steps n s) e ∙ steps_add a b (step s)

@@ -52,3 +52,4 @@ pub mod Tails
 pub mod OverlayImages
 pub mod Growing
 pub mod Tellings
+pub mod LoadedHops

@@ -4,6 +4,7 @@ pub mod Matching
 pub mod Images
 pub mod Headline
 pub mod Endings
+pub mod Visits
 pub mod Filling
 pub mod Overlays
 pub mod OverlayFilling
