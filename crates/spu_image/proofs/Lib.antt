@@ -51,5 +51,6 @@ pub mod Overlaying
 pub mod Tails
 pub mod OverlayImages
 pub mod Growing
+pub mod HopSteps
 pub mod Tellings
 pub mod LoadedHops

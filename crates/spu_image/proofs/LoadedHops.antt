@@ -1,5 +1,5 @@
 -- What a hop loads: a region that it comes to and that isn't mapped in its buffer, once; and nothing else.
-use Rattle.std.proofs.Common.{◌≡◌, ◌≢◌, ℕ, zero, suc, ◌+◌, ◌-◌, ◌*◌, ◌<◌, ◌≤◌, ◌⊎◌, ◌^◌, None, refl, sym, ap, ◌∙◌, arith, inl, inr, Bool, true, false}
+use Rattle.std.proofs.Common.{◌≡◌, ◌≢◌, ℕ, zero, suc, ◌+◌, ◌-◌, ◌*◌, ◌<◌, ◌≤◌, ◌⊎◌, ◌^◌, List, None, refl, sym, ap, ◌∙◌, arith, inl, inr, Bool, true, false}
 use Rattle.std.specs.Prelude.{◌==◌, ◌&&◌, not, if◌then◌else◌, get_or}
 use Rattle.std.proofs.lemmas.Bool.{cases_lt, eq-eqb, ne_eqb}
 use Rattle.std.proofs.lemmas.Bool.Decides.{nat_tests}
@@ -50,6 +50,10 @@ steps_count (suc n) m running =
 
 -- ---- a hop
 
+no_steps : (from n q : ℕ) (m : State) → load_count from n q 0 m ≡ 0
+unfolding load_count
+no_steps from n q m = refl
+
 -- Word 0 of the mapped quadword of buffer k.
 abbrev pub word_in : Overlay → State → ℕ → ℕ
 word_in o m k = fetch m.store (mapped_at o.loader k)
@@ -84,13 +88,9 @@ module _ (o : Overlay) (laid : IsLaid o) where
     first = same;
     loads = λ q some. (
         let z : (settles between 255 n).steps - n.steps ≡ 0 = ap (λ (v : State). v.steps - n.steps) stop ∙ omega arith in
-        ap (λ k. load_count (mapped_at o.loader 0) o.loader.buffers q k n) z ∙ nothing q n ∙ ap (λ b. if b then 1 else 0) (sym (missed_none r q m some mapped)));
+        ap (λ k. load_count (mapped_at o.loader 0) o.loader.buffers q k n) z ∙ no_steps (mapped_at o.loader 0) o.loader.buffers q n ∙ ap (λ b. if b then 1 else 0) (sym (missed_none r q m some mapped)));
     others = λ k few ne. ap (λ (v : State). word_in o v k) stop ∙ same k few;
   }
-    where
-      nothing : (q : ℕ) (n : State) → load_count (mapped_at o.loader 0) o.loader.buffers q 0 n ≡ 0
-      unfolding load_count
-      nothing q n = refl
 
   -- one that goes by the loader
   word_kept : (r a : ℕ) (link : List ℕ) (n v : State) → Arrived o r a link n v → (k : ℕ) → k < o.loader.buffers → (1 ≤ r → k ≢ buffer_of o r) → word_in o v k ≡ word_in o n k
