@@ -54,3 +54,4 @@ pub mod Growing
 pub mod HopSteps
 pub mod Tellings
 pub mod LoadedHops
+pub mod Visiting

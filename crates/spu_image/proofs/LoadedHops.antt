@@ -50,7 +50,7 @@ steps_count (suc n) m running =
 
 -- ---- a hop
 
-no_steps : (from n q : ℕ) (m : State) → load_count from n q 0 m ≡ 0
+pub no_steps : (from n q : ℕ) (m : State) → load_count from n q 0 m ≡ 0
 unfolding load_count
 no_steps from n q m = refl
 
@@ -73,7 +73,7 @@ module _ (o : Overlay) (laid : IsLaid o) where
       let f6 = (facts o laid).fits in
       word_zero m.store (slot_of o r) r (omega arith) h.quad
 
-  missed_none : (r q : ℕ) (m : State) → 1 ≤ q → (r ≡ 0) ⊎ (word_in o m (buffer_of o r) ≡ r) → is_missed o r q m ≡ false
+  pub missed_none : (r q : ℕ) (m : State) → 1 ≤ q → (r ≡ 0) ⊎ (word_in o m (buffer_of o r) ≡ r) → is_missed o r q m ≡ false
   missed_none r q m some (inl e) = ap (λ b. b && not (fetch m.store (slot_of o r) == r)) (ne_eqb q r (λ i. omega arith))
   missed_none r q m some (inr e) = ap (λ b. (q == r) && not b) (eq-eqb _ _ e) ∙ and_false (q == r)
     where
