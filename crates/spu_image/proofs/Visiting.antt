@@ -18,7 +18,7 @@ use Rattle.spu_loader.proofs.Counting.{kept_word, no_load}
 use Rattle.spu_loader.proofs.Ready.{below_buffers}
 use Rattle.spu_image.specs.Headline.{hops}
 use Rattle.spu_image.specs.Endings.{most_steps}
-use Rattle.spu_image.specs.Visits.{is_visit, visits, is_in_buffer, last_in, is_miss, miss_count, loads_in, loads_of_hop, misses_at, LoadsAsVisited, HopLoadsAsVisited, LoadsTold}
+use Rattle.spu_image.specs.Visits.{is_visit, visits, is_in_buffer, last_in, is_miss_of, miss_count, loads_in, loads_of_hop, misses_at, LoadsAsVisited, HopLoadsAsVisited, LoadsTold}
 use Rattle.spu_image.proofs.Growing.{step_counts, step_stays, steps_stay}
 use Rattle.spu_image.proofs.HopSteps.{IsLed, settles_led, hop_led, hops_led, begun_led, led_later}
 use Rattle.spu_image.proofs.LoadedHops.{word_in, no_steps, HopLoads, missed_none}
@@ -65,6 +65,9 @@ of_other buffers k r e some same =
 
 -- ---- counts of loads
 
+abbrev tally : Bool → ℕ
+tally b = if b then 1 else 0
+
 load_count_add : (from n r a b : ℕ) (m : State) → load_count from n r (a + b) m ≡ load_count from n r a m + load_count from n r b (steps a m)
 unfolding load_count steps
 load_count_add from n r zero b m = let e : 0 + b ≡ b = omega arith in ap (λ k. load_count from n r k m) e ∙ omega arith
@@ -75,7 +78,7 @@ load_count_add from n r (suc a) b m =
 
 load_count_one : (from n r k : ℕ) (m : State) → is_load from n r m ≡ false → load_count from n r (suc k) m ≡ load_count from n r k (step m)
 unfolding load_count
-load_count_one from n r k m e = ap (λ b. (if b then 1 else 0) + load_count from n r k (step m)) e ∙ omega arith
+load_count_one from n r k m e = ap (λ b. tally b + load_count from n r k (step m)) e ∙ omega arith
 
 -- a machine that has ended loads nothing
 load_count_ended : (from n r k : ℕ) (m : State) (e : RunEnd) → m.ended ≡ Some e → load_count from n r k m ≡ 0
@@ -85,7 +88,7 @@ load_count_ended from n r (suc k) m e is =
     let stay = step_stays e m is in
     let quiet : is_load from n r m ≡ false = no_load from n r m (λ j lt. kept_word (from + 16 * j) r m (ap (λ (v : State). fetch v.store (from + 16 * j)) stay)) in
     let rest : load_count from n r k (step m) ≡ 0 = ap (load_count from n r k) stay ∙ load_count_ended from n r k m e is in
-    ap₂ (λ b c. (if b then 1 else 0) + c) quiet rest
+    ap₂ (λ b c. tally b + c) quiet rest
 
 -- ---- what hops and visits begin with, and how they go on
 
@@ -148,13 +151,10 @@ module _ (l : Layout) (o : Overlay) (laid : IsLaid o) (slots : l.slots.from ≡ 
     same_region : (n : ℕ) → is_visit (state n) (state (suc n)) ≡ false → at_region (suc n) ≡ at_region n
     same_region n e = ap l.region (stays_in (state n) (state (suc n)) e)
 
-    pub mapped : (n : ℕ) → inside n → (k : ℕ) → k < o.loader.buffers → word_in o (after n) k ≡ last_in o.loader.buffers k (seen n)
-    mapped zero ins k few = ap (λ (m : State). word_in o m k) (no_hops (is_between l) (step begin)) ∙ h.empty k few ∙ sym (ap (last_in o.loader.buffers k) (no_visits l.region state))
-    mapped (suc n) ins k few = by_visit (is_visit (state n) (state (suc n))) refl (is_in_buffer o.loader.buffers k (at_region (suc n))) refl
+    mapped_next : (n : ℕ) → inside (suc n) → (k : ℕ) → k < o.loader.buffers → word_in o (after n) k ≡ last_in o.loader.buffers k (seen n)
+        → word_in o (after (suc n)) k ≡ last_in o.loader.buffers k (seen (suc n))
+    mapped_next n ins k few was = by_visit (is_visit (state n) (state (suc n))) refl (is_in_buffer o.loader.buffers k (at_region (suc n))) refl
       where
-        was : word_in o (after n) k ≡ last_in o.loader.buffers k (seen n)
-        was = mapped n (h.before n ins) k few
-
         other : is_in_buffer o.loader.buffers k (at_region (suc n)) ≡ false → word_in o (after (suc n)) k ≡ last_in o.loader.buffers k (seen n)
         other e = ap (λ (m : State). word_in o m k) (after_one n) ∙ (h.hop n ins).others k few (λ some. of_other o.loader.buffers k (at_region (suc n)) e some) ∙ was
 
@@ -162,7 +162,7 @@ module _ (l : Layout) (o : Overlay) (laid : IsLaid o) (slots : l.slots.from ≡ 
         own e =
             let t = of_buffer o.loader.buffers k (at_region (suc n)) e in
             elim (h.current (suc n) ins) [
-              | inl z ↦ (let some = t.0 in absurd (omega arith))
+              | inl z ↦ (let some = t.0 in absurd (omega (arith, z, some)))
               | inr w ↦ subst (λ j. word_in o (after (suc n)) j ≡ at_region (suc n)) t.1 w
             ]
 
@@ -171,7 +171,7 @@ module _ (l : Layout) (o : Overlay) (laid : IsLaid o) (slots : l.slots.from ≡ 
             let t = of_buffer o.loader.buffers k (at_region (suc n)) e in
             let r = same_region n v in
             elim (h.current n (h.before n ins)) [
-              | inl z ↦ (let some = t.0 in absurd (omega arith))
+              | inl z ↦ (let some = t.0 in absurd (omega (arith, z, some, r)))
               | inr w ↦ r ∙ sym w ∙ (let b : buffer_of o (at_region n) ≡ k = ap (buffer_of o) (sym r) ∙ t.1 in ap (word_in o (after n)) b) ∙ was
             ]
 
@@ -181,6 +181,10 @@ module _ (l : Layout) (o : Overlay) (laid : IsLaid o) (slots : l.slots.from ≡ 
         by_visit true v false e = other e ∙ sym (ap (last_in o.loader.buffers k) (seen_by n true v) ∙ ap (λ b. cond b (at_region (suc n)) (last_in o.loader.buffers k (seen n))) e)
         by_visit false v true e = own e ∙ still v e ∙ sym (ap (last_in o.loader.buffers k) (seen_by n false v))
         by_visit false v false e = other e ∙ sym (ap (last_in o.loader.buffers k) (seen_by n false v))
+
+    pub mapped : (n : ℕ) → inside n → (k : ℕ) → k < o.loader.buffers → word_in o (after n) k ≡ last_in o.loader.buffers k (seen n)
+    mapped zero ins k few = ap (λ (m : State). word_in o m k) (no_hops (is_between l) (step begin)) ∙ h.empty k few ∙ sym (ap (last_in o.loader.buffers k) (no_visits l.region state))
+    mapped (suc n) ins k few = mapped_next n ins k few (mapped n (h.before n ins) k few)
 
     -- ---- one hop
 
@@ -193,11 +197,11 @@ module _ (l : Layout) (o : Overlay) (laid : IsLaid o) (slots : l.slots.from ≡ 
             let word = mapped n (h.before n ins) (buffer_of o (at_region (suc n))) few in
             ap (λ w. (r == at_region (suc n)) && not (w == at_region (suc n))) word
             ∙ missed_so r (at_region (suc n)) (last_in o.loader.buffers (buffer_of o (at_region (suc n))) (seen n)) some
-            ∙ sym (ap (λ b. b && (at_region (suc n) == r && is_miss o.loader.buffers (at_region (suc n)) (seen n))) v)
+            ∙ sym (ap (λ b. b && is_miss_of o.loader.buffers r (at_region (suc n)) (seen n)) v)
         by_visit false v =
             let same = same_region n v in
             let current = subst (λ q. (q ≡ 0) ⊎ (word_in o (after n) (buffer_of o q) ≡ q)) (sym same) (h.current n (h.before n ins)) in
-            missed_none o laid (at_region (suc n)) r (after n) some current ∙ sym (ap (λ b. b && (at_region (suc n) == r && is_miss o.loader.buffers (at_region (suc n)) (seen n))) v)
+            missed_none o laid (at_region (suc n)) r (after n) some current ∙ sym (ap (λ b. b && is_miss_of o.loader.buffers r (at_region (suc n)) (seen n)) v)
 
     -- the first step of a hop loads nothing
     quiet : (r : ℕ) (m n : State) → step m ≡ n → ((k : ℕ) → k < o.loader.buffers → word_in o n k ≡ word_in o m k) → is_load (mapped_at o.loader 0) o.loader.buffers r m ≡ false
@@ -226,18 +230,17 @@ module _ (l : Layout) (o : Overlay) (laid : IsLaid o) (slots : l.slots.from ≡ 
         ap (λ f. load_count f o.loader.buffers r ((hop (is_between l) (after n)).steps - (after n).steps) (after n)) slots
         ∙ hop_count r (after n) (after n).ended refl (quiet r (after n) (step (after n)) refl there.first)
         ∙ there.loads r some
-        ∙ ap (λ b. if b then 1 else 0) (missed_at n r some ins)
+        ∙ ap tally (missed_at n r some ins)
 
     -- ---- all of them
 
     counted_by : (n r : ℕ) (b : Bool) → is_visit (state n) (state (suc n)) ≡ b
-        → miss_count o.loader.buffers r (seen (suc n)) ≡ miss_count o.loader.buffers r (seen n) + (if misses_at l.region o.loader.buffers state n r then 1 else 0)
-    counted_by n r true v =
-        let e = ap (λ b. if b && (at_region (suc n) == r && is_miss o.loader.buffers (at_region (suc n)) (seen n)) then 1 else 0) v in
-        ap (miss_count o.loader.buffers r) (seen_by n true v) ∙ omega (arith, e)
-    counted_by n r false v =
-        let e = ap (λ b. if b && (at_region (suc n) == r && is_miss o.loader.buffers (at_region (suc n)) (seen n)) then 1 else 0) v in
-        ap (miss_count o.loader.buffers r) (seen_by n false v) ∙ omega (arith, e)
+        → miss_count o.loader.buffers r (seen (suc n)) ≡ miss_count o.loader.buffers r (seen n) + tally (misses_at l.region o.loader.buffers state n r)
+    counted_by n r b v = ap (miss_count o.loader.buffers r) (seen_by n b v) ∙ by_test b ∙ ap (λ c. miss_count o.loader.buffers r (seen n) + tally (c && is_miss_of o.loader.buffers r (at_region (suc n)) (seen n))) (sym v)
+      where
+        by_test : (b : Bool) → miss_count o.loader.buffers r (cond b (at_region (suc n) ∷ seen n) (seen n)) ≡ miss_count o.loader.buffers r (seen n) + tally (b && is_miss_of o.loader.buffers r (at_region (suc n)) (seen n))
+        by_test true = omega arith
+        by_test false = omega arith
 
     -- the hops so far are so many steps from the start on
     led : (n : ℕ) → IsLed (most_steps n) begin (after n)

@@ -44,10 +44,14 @@ last_in buffers k (r ∷ before) = if is_in_buffer buffers k r then r else last_
 abbrev pub is_miss : ℕ → ℕ → List ℕ → Bool
 is_miss buffers r before = not (r == 0) && not (last_in buffers ((r - 1) % buffers) before == r)
 
--- how many visits are misses of region r
+-- a visit of region q behind those is a miss of region r
+abbrev pub is_miss_of : ℕ → ℕ → ℕ → List ℕ → Bool
+is_miss_of buffers r q before = q == r && is_miss buffers q before
+
+-- how many of these visits are
 abbrev pub miss_count : ℕ → ℕ → List ℕ → ℕ
 miss_count buffers r [] = 0
-miss_count buffers r (q ∷ before) = (if q == r && is_miss buffers q before then 1 else 0) + miss_count buffers r before
+miss_count buffers r (q ∷ before) = (if is_miss_of buffers r q before then 1 else 0) + miss_count buffers r before
 
 -- ---- loads
 
@@ -61,7 +65,7 @@ loads_of_hop l buffers r m = loads_in l buffers r ((hop (is_between l) m).steps 
 
 -- whether step n of a run, counted from 0, is a visit of region r that misses
 abbrev pub misses_at : (ℕ → ℕ) → ℕ → (ℕ → Sym) → ℕ → ℕ → Bool
-misses_at region buffers state n r = is_visit (state n) (state (suc n)) && (region (state (suc n)).f == r && is_miss buffers r (visits region state n))
+misses_at region buffers state n r = is_visit (state n) (state (suc n)) && is_miss_of buffers r (region (state (suc n)).f) (visits region state n)
 
 -- What holds after n steps of a symbolic run, whose states are these, and n hops of a machine that starts in this state.
 pub record LoadsAsVisited (l : Layout) (buffers : ℕ) (state : ℕ → Sym) (begin : State) (n : ℕ) : Type 0 where
