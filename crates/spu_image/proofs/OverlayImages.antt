@@ -31,7 +31,7 @@ own_size : (v : Bool) (words : List ℕ) (rest : List (List ℕ)) → length (fl
 own_size true words rest = (let both = length-append (bytes_of_words words) (flat_map bytes_of_words rest) in let own = words_length words in omega (arith, both, own))
 own_size false words rest = omega arith
 
-region_length : (r : ℕ) (cs : List CodeSection) (ws : List (List ℕ)) (regions : List ℕ) → length ws ≡ length cs → length regions ≡ length cs
+pub region_length : (r : ℕ) (cs : List CodeSection) (ws : List (List ℕ)) (regions : List ℕ) → length ws ≡ length cs → length regions ≡ length cs
     → ((k : ℕ) (c : CodeSection) → slice_get cs k ≡ Some c → WORD_SIZE * length (slice_index_or ws k []) ≡ rounded c.size)
     → length (flat_map bytes_of_words (in_region r regions ws)) ≡ size_in r (section_sizes cs) regions (length cs)
 region_length r [] [] [] a b h = refl

@@ -37,7 +37,7 @@ use Rattle.spu_image.proofs.Landing.{agrees_placed}
 abbrev pub loaded : ℕ → List ℕ → Store
 loaded at bytes = placed at bytes (λ k. 0)
 
-none_behind : (q : List ℕ) (k : ℕ) → length q ≤ k → get_or q k 0 ≡ 0
+pub none_behind : (q : List ℕ) (k : ℕ) → length q ≤ k → get_or q k 0 ≡ 0
 none_behind [] k le = refl
 none_behind (v ∷ q) zero le = absurd (omega arith)
 none_behind (v ∷ q) (suc k) le = none_behind q k (omega arith)
@@ -63,7 +63,7 @@ pub words_length : (words : List ℕ) → length (bytes_of_words words) ≡ 4 * 
 words_length [] = refl
 words_length (w ∷ words) = let e = words_length words in omega (arith, e)
 
-fetch_digits : (m : Store) (a w : ℕ) → w < 2 ^ 32 → ((j : ℕ) → j < 4 → m (a + j) ≡ get_or (be_digits w) j 0) → fetch m a ≡ w
+pub fetch_digits : (m : Store) (a w : ℕ) → w < 2 ^ 32 → ((j : ℕ) → j < 4 → m (a + j) ≡ get_or (be_digits w) j 0) → fetch m a ≡ w
 unfolding fetch
 fetch_digits m a w small h =
     let z : a + 0 ≡ a = omega arith in
@@ -73,7 +73,7 @@ fetch_digits m a w small h =
     let e3 : m (a + 3) ≡ w % 256 = h 3 (omega arith) in
     omega (arith, e0, e1, e2, e3)
 
-bytes_are : (m : Store) (a : ℕ) (q : List ℕ) → ((k : ℕ) → k < length q → m (a + k) ≡ get_or q k 0) → bytes_from m a (length q) ≡ q
+pub bytes_are : (m : Store) (a : ℕ) (q : List ℕ) → ((k : ℕ) → k < length q → m (a + k) ≡ get_or q k 0) → bytes_from m a (length q) ≡ q
 bytes_are m a [] h = refl
 bytes_are m a (b ∷ q) h =
     let z : a + 0 ≡ a = omega arith in
@@ -99,7 +99,7 @@ unfolding placed
 placed_else at bytes g a (inl h) = grind (arith, nat_tests)
 placed_else at bytes g a (inr h) = grind (arith, nat_tests)
 
-entries_keep : (p : Prog) (es : List Entry) (areas : List Area) (g : Store) (a : ℕ) → AllByRecursion (λ (e : Entry). (128 ≤ e.at) × (e.at + 16 ≤ p.data_end)) es → p.data_end ≤ a → starting.with_entries es areas g a ≡ g a
+pub entries_keep : (p : Prog) (es : List Entry) (areas : List Area) (g : Store) (a : ℕ) → AllByRecursion (λ (e : Entry). (128 ≤ e.at) × (e.at + 16 ≤ p.data_end)) es → p.data_end ≤ a → starting.with_entries es areas g a ≡ g a
 unfolding starting.with_entries
 entries_keep p [] areas g a h le = refl
 entries_keep p (e ∷ es) areas g a h le =

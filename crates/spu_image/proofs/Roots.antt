@@ -29,7 +29,7 @@ use Rattle.spu_image.proofs.Made.{words_append}
 abbrev pub joined : List (List ℕ) → List ℕ
 joined sections = flat_map (λ (ws : List ℕ). ws) sections
 
-joined_bytes : (ss : List (List ℕ)) → bytes_of_words (joined ss) ≡ flat_map bytes_of_words ss
+pub joined_bytes : (ss : List (List ℕ)) → bytes_of_words (joined ss) ≡ flat_map bytes_of_words ss
 joined_bytes [] = refl
 joined_bytes (s ∷ ss) = words_append s (joined ss) ∙ ap (λ bs. bytes_of_words s ++ bs) (joined_bytes ss)
 
@@ -61,7 +61,7 @@ all_sections (s ∷ ss) (c ∷ cs) e h =
     omega (arith, rest, first, more, long)
 
 -- a word of the instructions that these words are
-word_at : (l : Layout) (f j : ℕ) (xs : List SymInst) (ws : List ℕ) → AreWords l f j xs ws → (i : ℕ) (x : SymInst) → slice_get xs i ≡ Some x → IsWord l f (j + i) x (slice_index ws i) × (i < length ws)
+pub word_at : (l : Layout) (f j : ℕ) (xs : List SymInst) (ws : List ℕ) → AreWords l f j xs ws → (i : ℕ) (x : SymInst) → slice_get xs i ≡ Some x → IsWord l f (j + i) x (slice_index ws i) × (i < length ws)
 word_at l f j [] ws h i x e = cc
 word_at l f j (y ∷ xs) [] h i x e = absurd h
 word_at l f j (y ∷ xs) (w ∷ ws) h zero x e =

@@ -36,10 +36,10 @@ use Rattle.spu_image.proofs.Fields.{patched_reaches}
 use Rattle.spu_image.proofs.Steps.{below}
 use Rattle.spu_image.proofs.FlatHops.{machine_step}
 
-abbrev zero_list : ℕ → List ℕ
+abbrev pub zero_list : ℕ → List ℕ
 zero_list n = replicate n 0
 
-zero_at : (n k : ℕ) → get_or (zero_list n) k 0 ≡ 0
+pub zero_at : (n k : ℕ) → get_or (zero_list n) k 0 ≡ 0
 zero_at zero k = refl
 zero_at (suc n) zero = refl
 zero_at (suc n) (suc k) = zero_at n k
@@ -143,3 +143,10 @@ module _ (p : Prog) (limit : ℕ) (l : Layout) (laid : IsLaid p limit l) (frames
   -- the first step writes nothing
   pub same_store : (a : ℕ) → (machine.step begin).store a ≡ begin.store a
   same_store a = ap (λ (n : State). n.store a) leads
+
+  -- nor the image
+  pub store_same : (machine.step begin).store ≡ m
+  store_same = ap (λ (n : State). n.store) leads
+
+  pub image_same : (machine.step begin).image ≡ image
+  image_same = ap (λ (n : State). n.image) leads

@@ -49,7 +49,7 @@ front_small HintA w o e lt = omega arith
 front_small HintB w o e lt = omega arith
 front_small StopForm w o e lt = omega arith
 
-decodes_small : (w : ℕ) (x : Inst) → Decodes w x → w < 2 ^ 32
+pub decodes_small : (w : ℕ) (x : Inst) → Decodes w x → w < 2 ^ 32
 decodes_small w x h = front_small (row_of x.op).layout w (opcode_of x.op) h.opcode (opcode_fits x.op)
 
 pub word_small : (l : Layout) (f i : ℕ) (x : SymInst) (w : ℕ) → IsWord l f i x w → w < 2 ^ 32

@@ -1,7 +1,9 @@
 //! Laws of links and of the words that they make.
 
-ghost use Rattle.std.specs.Prelude.{◌≡◌, ◌≤◌, ◌∷◌, [], ℕ, List, Option, Some, All, pos};
+ghost use Rattle.std.specs.Prelude.{◌≡◌, ◌≤◌, ◌∷◌, [], ℕ, List, Option, Some, All, length, pos, true};
 ghost use Rattle.spu_word.specs.Bytes.{word_of};
+ghost use Rattle.spu_word.specs.declared.limits.TheConstants.{MAX_FILE_SIZE};
+ghost use Rattle.spu_elf.specs.Spelling.{spell_exec};
 ghost use Rattle.spu_elf.specs.declared.executables.Exec.{Exec};
 ghost use Rattle.spu_isa.specs.declared.operation.Op.TheVariants as op;
 ghost use Rattle.spu_isa.specs.Table.{Decodes};
@@ -19,10 +21,12 @@ ghost use Rattle.spu_ideal.specs.Samples.{nothing, tours, with_fields};
 ghost use Rattle.spu_ideal.specs.States.{IsJudged};
 ghost use Rattle.spu_layout.specs.Layouts.{AreDisjoint, IsFlat, Layout, areas, is_between};
 ghost use Rattle.spu_layout.specs.Placing.{FitsFlat, layout_of};
+ghost use Rattle.spu_layout.specs.Planned.{IsPlanned};
 ghost use Rattle.spu_elf.specs.declared.objects.Object.{Object};
 ghost use Rattle.spu_elf.specs.WellFormed.{IsWellFormed as IsWellFormedObject};
 ghost use Rattle.spu_judge.specs.declared.outcome.Judged.{Judged};
 ghost use Rattle.spu_image.specs.Images.{IsFlatExec};
+ghost use Rattle.spu_image.specs.Overlays.{IsOverlayExec};
 ghost use Rattle.spu_image.specs.Linking.{IsJudgedFrom, IsJudgeFault, IsLinked, IsLinkFault};
 ghost use Rattle.spu_image.specs.declared.outcome.Linked.{Linked};
 ghost use Rattle.spu_image.specs.declared.outcome.LinkFault.{LinkFault};
@@ -51,18 +55,24 @@ pub fn flat_images_keep_the_promise()
         → IsFlatExec p (layout_of p plan limit) limit told x → Headline p (layout_of p plan limit) frames limit need x file }
 {}
 
-/// What the promise of a link says of hops tells of the machine's run of the image: where the symbolic run ends inside after k
-/// steps, the machine's has ended alike after at most 1 + 256 k, and as long as it stays inside, what the machine sends begins
-/// with what the symbolic run has sent.
-#[tactic(auto, using(crate::proofs::Tellings::tells))]
-pub fn runs_tell_how_machines_end()
-    ensures { (p : Prog) (l : Layout) (frames : ℕ → ℕ) (limit need : ℕ) (x : Exec) (file : List ℕ) → Headline p l frames limit need x file → TellsRuns p l frames limit x file }
+/// An executable of a judged program by a plan with overlays keeps the promise of a link, with the file that it is spelled as.
+pub fn overlay_images_keep_the_promise()
+    ensures { (p : Prog) (frames : ℕ → ℕ) (need : ℕ) → IsJudged p frames need → (plan : Plan) (limit : ℕ) → need ≤ limit → IsPlanned p plan limit → plan.overlay ≡ true → (told : ℕ → Option ℕ) (x : Exec) (file : List ℕ)
+        → IsOverlayExec p plan (layout_of p plan limit) limit told x → file ≡ spell_exec x → length file ≤ MAX_FILE_SIZE → Headline p (layout_of p plan limit) frames limit need x file }
 {}
 
 /// In a flat layout each hop is one step.
 #[tactic(auto, using(crate::proofs::FlatSteps::flat_hop))]
 pub fn flat_hops_are_steps()
     ensures { (l : Layout) → IsFlat l → (m : State) → hop (is_between l) m ≡ step m }
+{}
+
+/// What the promise of a link says of hops tells of the machine's run of the image: where the symbolic run ends inside after k
+/// steps, the machine's has ended alike after at most 1 + 256 k, and as long as it stays inside, what the machine sends begins
+/// with what the symbolic run has sent.
+#[tactic(auto, using(crate::proofs::Tellings::tells))]
+pub fn runs_tell_how_machines_end()
+    ensures { (p : Prog) (l : Layout) (frames : ℕ → ℕ) (limit need : ℕ) (x : Exec) (file : List ℕ) → Headline p l frames limit need x file → TellsRuns p l frames limit x file }
 {}
 
 /// The promise at a program with a frame, a call, a pointer call and data with a label, up to its stop. After five hops
