@@ -61,7 +61,7 @@ has_behind r m (x ∷ xs) ns h = inr (has_behind r m xs ns h)
 
 has_number : (b r m : ℕ) (regions : List (List ℕ)) → AreRegions b regions → m ≤ r → r < m + length regions → Has r (numbers m regions)
 has_number b r m [] each low up = absurd (omega arith)
-has_number b r m (own ∷ rest) each low up = by_number (eqb m r) refl
+has_number b r m (own ∷ rest) each low up = by_number (λ more. has_number b r (suc m) rest each.2 more (omega arith)) (eqb m r) refl
   where
     not_same : eqb m r ≡ false → m ≡ r → ⊥
     not_same e q = (let same = eq-eqb m r q in cc)
@@ -69,9 +69,9 @@ has_number b r m (own ∷ rest) each low up = by_number (eqb m r) refl
     above : (m ≡ r → ⊥) → suc m ≤ r
     above other = elim (cases_lt m r) [ inl lt ↦ lt | inr up ↦ absurd (other (omega arith)) ]
 
-    by_number : (t : Bool) → eqb m r ≡ t → Has r (numbers m (own ∷ rest))
-    by_number true e = subst (λ q. Has r (replicate (length own) q ++ numbers (suc m) rest)) (sym (eqb-true m r e)) (has_here r own (numbers (suc m) rest) each.0.some)
-    by_number false e = has_behind r m own (numbers (suc m) rest) (has_number b r (suc m) rest each.2 (above (not_same e)) (omega arith))
+    by_number : (suc m ≤ r → Has r (numbers (suc m) rest)) → (t : Bool) → eqb m r ≡ t → Has r (numbers m (own ∷ rest))
+    by_number further true e = subst (λ q. Has r (replicate (length own) q ++ numbers (suc m) rest)) (sym (eqb-true m r e)) (has_here r own (numbers (suc m) rest) each.0.some)
+    by_number further false e = has_behind r m own (numbers (suc m) rest) (further (above (not_same e)))
 
 has_spread : (r : ℕ) (stay : List Bool) (ns sizes : List ℕ) → length stay ≡ length sizes → length ns ≡ length (overlaid stay sizes) → Has r ns → Has r (spread stay ns)
 has_spread r [] [] [] a c h = h
@@ -282,7 +282,7 @@ module _ (p : Prog) (plan : Plan) (limit : ℕ) (well : IsWellFormed p) (planned
           counts (suc f) h = omega arith
 
       pub start_of : (r : ℕ) → overlays.place_of surroundings (suc r) ≡ region_start p plan (suc r)
-      start_of r = ap (λ b. buffers_start p plan + b * (r % plan.buffers)) (sym size)
+      start_of r = (let e : suc r - 1 ≡ r = omega arith in ap (λ b. buffers_start p plan + b * ((suc r - 1) % plan.buffers)) (sym size) ∙ ap (λ k. buffers_start p plan + plan.buffer * (k % plan.buffers)) e)
 
       inside_region : (f i : ℕ) (r : ℕ) → region p plan (suc f) ≡ r → 1 ≤ r → IsPlace p (suc f) i
           → (overlays.place_of surroundings r ≤ at p plan (suc f) i) × (at p plan (suc f) i + 4 ≤ overlays.place_of surroundings r + region_size p plan r)

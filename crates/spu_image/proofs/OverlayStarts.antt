@@ -300,10 +300,13 @@ module _ (p : Prog) (plan : Plan) (limit : ℕ) (well : IsWellFormed p) (planned
     table_there zero is = absurd (let low = is.0 in omega arith)
     table_there (suc r) is =
         let up = is.1 in
-        let entry = entry_there r (omega arith) in
-        load_is m (entry_of o (suc r)) (region_start p plan (suc r)) (region_size p plan (suc r)) (segment_offset x (suc r)) (r % plan.buffers + 1)
-        (text_there (16 * (length p.functions - 1) + 272 + 16 * plan.buffers + 48 + (16 + 16 * r)) (entry_of o (suc r)) (table_entry p plan (segment_offset x) (1 + r)) entry (omega arith) (inr (omega arith)))
-        ∙ ap (λ a. quad_of a (region_size p plan (suc r)) (segment_offset x (suc r)) (r % plan.buffers + 1)) (sym (ap (λ b. buffers_start p plan + b * (r % plan.buffers)) (sym image.size)))
+        let e : 1 + r ≡ suc r = omega arith in
+        let place : place_of o (suc r) ≡ region_start p plan (suc r) = (let k : suc r - 1 ≡ r = omega arith in ap (λ b. buffers_start p plan + b * ((suc r - 1) % plan.buffers)) (sym image.size) ∙ ap (λ j. buffers_start p plan + plan.buffer * (j % plan.buffers)) k) in
+        let entry : Stands (16 * (length p.functions - 1) + 272 + 16 * plan.buffers + 48 + (16 + 16 * r)) (table_entry p plan (segment_offset x) (suc r)) behind =
+        subst (λ j. Stands (16 * (length p.functions - 1) + 272 + 16 * plan.buffers + 48 + (16 + 16 * r)) (table_entry p plan (segment_offset x) j) behind) e (entry_there r (omega arith)) in
+        load_is m (entry_of o (suc r)) (region_start p plan (suc r)) (region_size p plan (suc r)) (segment_offset x (suc r)) ((suc r - 1) % plan.buffers + 1)
+        (text_there (16 * (length p.functions - 1) + 272 + 16 * plan.buffers + 48 + (16 + 16 * r)) (entry_of o (suc r)) (table_entry p plan (segment_offset x) (suc r)) entry (omega arith) (inr (omega arith)))
+        ∙ ap (λ a. quad_of a (region_size p plan (suc r)) (segment_offset x (suc r)) ((suc r - 1) % plan.buffers + 1)) (sym place)
 
     pub holds : Holds o m im
     holds = record { code = loader_there; returns = returns_there; image_is = image_there; step_is = steps_there; table = table_there }

@@ -2,7 +2,7 @@
 use Rattle.std.proofs.Common.{◌≡◌, ℕ, zero, suc, ◌+◌, ◌-◌, ◌*◌, ◌^◌, ◌≤◌, ◌<◌, ◌⊎◌, List, [], ◌∷◌, ◌++◌, length, get_or, map, replicate, Option, Some, None, refl, sym, ap, ◌∙◌, inl, inr, subst, append_assoc, arith}
 use Rattle.std.specs.Prelude.{slice_get, slice_index}
 use Rattle.std.specs.List.{flat_map, range_with_len}
-use Rattle.std.proofs.lemmas.List.{get_or_append_left, length-append}
+use Rattle.std.proofs.lemmas.List.{get_or_append_left, get_or-append-add, length-append}
 use Rattle.spu_word.specs.Bytes.{be_digits, quad_of}
 use Rattle.spu_word.proofs.Stands.{Stands, stands_after, stands_at, stands_inner, stands_more, stands_whole}
 use Rattle.spu_isa.specs.declared.instruction.Inst.{Inst}
@@ -39,14 +39,10 @@ stands_room at text all s =
     let c = s.place in
     omega (arith, n, a, b, c)
 
-after_front : (front rest : List ℕ) (j : ℕ) → get_or (front ++ rest) (length front + j) 0 ≡ get_or rest j 0
-after_front [] rest j = refl
-after_front (x ∷ front) rest j = after_front front rest j
-
 pub stands_item : (at : ℕ) (text all : List ℕ) → Stands at text all → (j : ℕ) → j < length text → get_or all (at + j) 0 ≡ get_or text j 0
 stands_item at text all s j lt =
     let e : at + j ≡ length s.front + j = (let c = s.place in omega (arith, c)) in
-    ap (λ (xs : List ℕ). get_or xs (at + j) 0) s.parts ∙ (ap (λ k. get_or (s.front ++ (text ++ s.rest)) k 0) e ∙ (after_front s.front (text ++ s.rest) j ∙ get_or_append_left text s.rest 0 j lt))
+    ap (λ (xs : List ℕ). get_or xs (at + j) 0) s.parts ∙ (ap (λ k. get_or (s.front ++ (text ++ s.rest)) k 0) e ∙ (get_or-append-add s.front (text ++ s.rest) j 0 ∙ get_or_append_left text s.rest 0 j lt))
 
 -- word n of a list of words, in bytes
 pub digits_stand : (ws : List ℕ) (n : ℕ) → n < length ws → Stands (4 * n) (be_digits (slice_index ws n)) (bytes_of_words ws)
@@ -73,8 +69,8 @@ word_decoded (c ∷ cs) (w ∷ ws) are zero lt = (let e : decoded w ≡ Some c =
 word_decoded (c ∷ cs) (w ∷ ws) are (suc n) lt = (let e : AreWordsOf cs ws = cc in word_decoded cs ws e n (omega arith))
 
 pub get_behind : (xs ys : List Inst) (n : ℕ) → slice_get (xs ++ ys) (length xs + n) ≡ slice_get ys n
-get_behind [] ys n = refl
-get_behind (x ∷ xs) ys n = get_behind xs ys n
+get_behind [] ys n = (let e : 0 + n ≡ n = omega arith in ap (slice_get ys) e)
+get_behind (x ∷ xs) ys n = (let e : suc (length xs) + n ≡ suc (length xs + n) = omega arith in ap (slice_get (x ∷ (xs ++ ys))) e ∙ get_behind xs ys n)
 
 pub get_front : (xs ys : List Inst) (n : ℕ) → n < length xs → slice_get (xs ++ ys) n ≡ slice_get xs n
 get_front [] ys n lt = absurd (omega arith)
