@@ -50,9 +50,13 @@ pub mod Tables
 pub mod Overlaying
 pub mod Tails
 pub mod OverlayImages
+pub mod Growing
+pub mod HopSteps
+pub mod LoadedHops
 pub mod Carrying
 pub mod LoaderRelations
 pub mod Surroundings
+pub mod OverlayLoads
 pub mod OverlayHops
 pub mod SectionWords
 pub mod StoreParts
@@ -62,8 +66,7 @@ pub mod OverlayPlaces
 pub mod OverlayWords
 pub mod OverlayStarts
 pub mod PlannedHeadlines
-pub mod Growing
-pub mod HopSteps
 pub mod Tellings
-pub mod LoadedHops
 pub mod Visiting
+pub mod OverlayVisits
+pub mod PlannedLoads
