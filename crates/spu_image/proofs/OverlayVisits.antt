@@ -9,7 +9,6 @@ use Rattle.spu_ls.specs.Machine as machine
 use Rattle.spu_ideal.specs.State.{Sym}
 use Rattle.spu_ideal.specs.Machine.{start, run, step, IsInside}
 use Rattle.spu_ideal.specs.Promises.{IsHigh}
-use Rattle.spu_layout.specs.declared.layout.Span.{Span}
 use Rattle.spu_layout.specs.Layouts.{Layout, IsLaid, is_between}
 use Rattle.spu_loader.specs.Code.{mapped_at}
 use Rattle.spu_loader.specs.Overlays.{Overlay, buffer_of}
@@ -26,9 +25,6 @@ use Rattle.spu_image.proofs.Visiting.{IsFollowed}
 
 module _ (p : Prog) (limit : ℕ) (l : Layout) (laid : IsLaid p limit l) (linkable : IsLinkable p) (frames : ℕ → ℕ) (o : Overlay) (over : Surrounds p o l)
     (given : Inputs) (first : State) (begun : IsBegunAround p o l limit given first) (need : ℕ) (promised : IsPromised p frames limit need given) where
-  pub slots_at : l.slots.from ≡ mapped_at o.loader 0
-  slots_at = let e = ap (λ (s : Span). s.from) over.slots in omega (arith, e)
-
   abbrev state : ℕ → Sym
   state n = run p frames limit given n
 
@@ -62,9 +58,9 @@ module _ (p : Prog) (limit : ℕ) (l : Layout) (laid : IsLaid p limit l) (linkab
   named_here n inside = current_named p limit l laid o over (l.region (state n).f) (after n) (over.regions (state n).f (state n).i (promised.high n).placed) (related n inside).current
 
   -- a start whose first step leads there and leaves the store, in which no region is mapped
-  module _ (begin : State) (is : machine.step begin ≡ first) (same : (a : ℕ) → first.store a ≡ begin.store a)
+  module _ (slots : l.slots.from ≡ mapped_at o.loader 0) (begin : State) (is : machine.step begin ≡ first) (same : (a : ℕ) → first.store a ≡ begin.store a)
       (empty : (k : ℕ) → k < o.loader.buffers → load first.store (mapped_at o.loader k) ≡ quad_of 0 0 0 0) (fresh : (begin.ended ≡ None) × (begin.steps ≡ 0)) where
-    pub followed : IsFollowed l o over.laid slots_at state begin (IsInside p frames limit given)
+    pub followed : IsFollowed l o over.laid slots state begin (IsInside p frames limit given)
     followed = record {
       before = inside_before;
       current = λ n inside. subst (λ b. (l.region (state n).f ≡ 0) ⊎ (word_in o (hops (is_between l) b n) (buffer_of o (l.region (state n).f)) ≡ l.region (state n).f)) (sym is) (named_here n inside);
