@@ -70,3 +70,4 @@ pub mod Tellings
 pub mod Visiting
 pub mod OverlayVisits
 pub mod PlannedLoads
+pub mod TourRegions

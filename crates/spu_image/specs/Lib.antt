@@ -11,3 +11,4 @@ pub mod OverlayFilling
 pub mod Linking
 pub mod JudgedLinking
 pub mod Samples
+pub mod RegionSamples
