@@ -80,7 +80,6 @@ pub fn runs_tell_how_machines_end()
 /// In an executable of a judged program by a plan with overlays, each hop loads a region exactly where the symbolic step is a visit
 /// of it that misses, and once; word 0 of each mapped quadword is the region of the last visit to its buffer; and the machine's run
 /// loads each region as often as it is missed.
-#[tactic(auto, using(crate::proofs::PlannedLoads::planned_loads))]
 pub fn overlay_images_load_as_visited()
     ensures { (p : Prog) (frames : ℕ → ℕ) (need : ℕ) → IsJudged p frames need → (plan : Plan) (limit : ℕ) → need ≤ limit → IsPlanned p plan limit → plan.overlay ≡ true → (told : ℕ → Option ℕ) (x : Exec) (file : List ℕ)
         → IsOverlayExec p plan (layout_of p plan limit) limit told x → file ≡ spell_exec x → length file ≤ MAX_FILE_SIZE → LoadsRuns p (layout_of p plan limit) plan.buffers frames limit x file }
@@ -106,7 +105,6 @@ pub fn tour_runs_in_its_image()
 /// The promise at the same program in a region, up to its stop. After five hops the pointer call has come to the second
 /// function in the buffer, by its stub, whose address stands in the data, with the link of the return entry; after 23 the
 /// machine has sent what the symbolic run has, and stopped. The region was loaded once, and is mapped.
-#[tactic(auto, using(crate::proofs::TourRegions::region_enters, crate::proofs::TourRegions::region_labels, crate::proofs::TourRegions::region_links, crate::proofs::TourRegions::region_sends, crate::proofs::TourRegions::region_stops, crate::proofs::TourRegions::region_is_loaded, crate::proofs::TourRegions::region_is_mapped))]
 pub fn tour_runs_in_its_region()
     ensures enters { (told : ℕ → Option ℕ) (x : Exec) (file : List ℕ) → IsOverlayExec tours region_plan region_layout 16384 told x → file ≡ spell_exec x → length file ≤ MAX_FILE_SIZE → CanStart x file nothing → (region_after x file 5).pc ≡ 704 }
     ensures labels { (told : ℕ → Option ℕ) (x : Exec) (file : List ℕ) → IsOverlayExec tours region_plan region_layout 16384 told x → file ≡ spell_exec x → length file ≤ MAX_FILE_SIZE → CanStart x file nothing → (region_after x file 5).store 131 ≡ 192 }
