@@ -72,7 +72,6 @@ pub fn flat_hops_are_steps()
 /// What the promise of a link says of hops tells of the machine's run of the image: where the symbolic run ends inside after k
 /// steps, the machine's has ended alike after at most 1 + 256 k, and as long as it stays inside, what the machine sends begins
 /// with what the symbolic run has sent.
-#[tactic(auto, using(crate::proofs::Tellings::tells))]
 pub fn runs_tell_how_machines_end()
     ensures { (p : Prog) (l : Layout) (frames : ℕ → ℕ) (limit need : ℕ) (x : Exec) (file : List ℕ) → Headline p l frames limit need x file → TellsRuns p l frames limit x file }
 {}
