@@ -1,7 +1,9 @@
 -- What the loader's run, and what a call, a return or a jump leave alike on both machines.
-use Rattle.std.proofs.Common.{◌≡◌, ℕ, ◌+◌, List, None, refl, sym, ap, ◌∙◌, subst, Bool, true, false, cond}
+use Rattle.std.proofs.Common.{◌≡◌, ℕ, ◌+◌, ◌≤◌, List, Option, None, arith, refl, sym, ap, ◌∙◌, subst, Bool, true, false, cond}
 use Rattle.std.specs.Prelude.{◌==◌, ◌&&◌, ◌||◌, nat_le}
 use Rattle.std.proofs.lemmas.Bool.{cond_both, or_parts, eqb-true}
+use Rattle.std.proofs.lemmas.Bool.Decides.{nat_tests}
+use Rattle.spu_exec.specs.declared.channels.TheConstants.{MFC_LSA, MFC_TAG_ID}
 use Rattle.spu_ls.specs.Machine.{State}
 use Rattle.spu_ls.specs.Machine as machine
 use Rattle.spu_loader.specs.Overlays.{Overlay}
@@ -11,7 +13,7 @@ use Rattle.spu_ideal.specs.State.{Sym, forgets}
 use Rattle.spu_ideal.specs.Bytes.{unknown_quad, link_of}
 use Rattle.spu_ideal.specs.Machine.{opens}
 use Rattle.spu_layout.specs.Layouts.{Layout, IsShared}
-use Rattle.spu_image.specs.Agreeing.{Agrees, AgreesQuad}
+use Rattle.spu_image.specs.Agreeing.{Agrees, AgreesQuad, AgreesWord}
 use Rattle.spu_layout.specs.Labels.{code}
 use Rattle.spu_image.specs.Matching.{SameEnd, Matches}
 use Rattle.spu_image.proofs.Agreement.{agrees_unknown}
@@ -27,6 +29,12 @@ pub record Carried (l : Layout) (u : Sym) (n : State) : Type 0 where
   pub output : n.output ≡ u.output
   pub ended : SameEnd l u.ended n.ended
 
+-- what is forgotten agrees
+forgotten : (s : ℕ → Option ℕ) (n w : ℕ) → MFC_LSA ≤ n → n ≤ MFC_TAG_ID → AgreesWord (cond (nat_le MFC_LSA n && nat_le n MFC_TAG_ID) None (s n)) w
+forgotten s n w low high =
+    let t : (nat_le MFC_LSA n && nat_le n MFC_TAG_ID) ≡ true = grind (arith, nat_tests) in
+    subst (λ b. AgreesWord (cond b None (s n)) w) (sym t) tt
+
 -- where register 0 agrees too, and pc is the place, they match
 pub carried_matches : (l : Layout) (u : Sym) (n : State) (f i k : ℕ) → Carried l u n → AgreesQuad (code l) (u.regs 0) (n.regs 0) → n.pc ≡ l.at f i
     → Matches l (record (forgets u) { f = f; i = i; steps = k }) n
@@ -34,7 +42,7 @@ carried_matches l u n f i k c link place = record {
   place = place;
   regs = λ r. cond_both (nat_le 75 r && nat_le r 79) unknown_quad (u.regs r) (λ q. AgreesQuad (code l) q (n.regs r)) (λ is. agrees_unknown (code l) (n.regs r)) (λ is. others r (r == 0) refl is);
   store = c.store;
-  channels = λ n low high. tt;
+  channels = λ k low high. forgotten u.channels k (n.channels k) low high;
   mask = c.mask;
   update = tt;
   queue = c.queue;

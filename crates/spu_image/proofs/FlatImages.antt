@@ -56,7 +56,7 @@ ears_inside : (end : ℕ) (ears : List Ear) → ((e : Ear) → Contains ears e �
 ears_inside end [] h = tt
 ears_inside end (e ∷ es) h = (h e (0, omega arith, refl), ears_inside end es (λ d c. (let lt = c.1 in h d (suc c.0, omega arith, c.2))))
 
-data_of : (p : Prog) → IsWellFormed p → HasData p
+pub data_of : (p : Prog) → IsWellFormed p → HasData p
 data_of p well = record {
   low = ends_behind DATA_START p.parts p.data_end well.ordered;
   parts = parts_below DATA_START p.parts p.data_end well.ordered;

@@ -54,6 +54,13 @@ unfolding settles
 settles_sound between zero m sound = sound
 settles_sound between (suc k) m sound = cond_both (between m.pc && is_none m.ended) (settles between k (machine.step m)) m IsSound (λ t. settles_sound between k (machine.step m) (step_sound m sound)) (λ t. sound)
 
+-- an address between two
+between_parts : (from to pc : ℕ) → (nat_le from pc && nat_lt pc to) ≡ true → (from ≤ pc) × (pc < to)
+between_parts from to pc t = (let q = and_parts (nat_le from pc) (nat_lt pc to) t in (grind (arith, nat_tests), grind (arith, nat_tests)))
+
+between_is : (from to pc : ℕ) → from ≤ pc → pc < to → (nat_le from pc && nat_lt pc to) ≡ true
+between_is from to pc low up = grind (arith, nat_tests)
+
 -- what is promised of both machines after a step: once the hop has settled, they are related
 abbrev Arriving : Prog → (ℕ → ℕ) → ℕ → Overlay → Layout → State → Sym → State → Type 0
 Arriving p frames limit o l first t n = IsSound n → IsHigh p frames limit t → Arrival l (Related o l first) t n
@@ -66,14 +73,17 @@ module _ (p : Prog) (limit : ℕ) (l : Layout) (laid : IsLaid p limit l) (linkab
     where
       by_between : (b : Bool) → is_between l (l.at f i) ≡ b → b ≡ false
       by_between false t = refl
-      by_between true t = (let q = and_parts (nat_le l.passage.from (l.at f i)) (nat_lt (l.at f i) l.passage.to) t in absurd (laid.outside f i (y, e) (grind (arith, nat_tests), grind (arith, nat_tests))))
+      by_between true t = absurd (laid.outside f i (y, e) (between_parts l.passage.from l.passage.to (l.at f i) t))
 
   -- the passage is between places
   passage_between : (q pc : ℕ) → l.passage.from ≤ q → q ≤ o.loader.base → IsInside o q pc → is_between l pc ≡ true
   passage_between q pc low up h =
       let t = over.passage in
       let s = over.stubs in
-      elim h [ inl x ↦ (let a = x.0 in let b = x.1 in grind (arith, nat_tests)) | inr x ↦ (let a = x.0 in let b = x.1 in grind (arith, nat_tests)) ]
+      elim h [
+        | inl x ↦ (let a = x.0 in let b = x.1 in between_is l.passage.from l.passage.to pc (omega (arith, a, low)) (omega (arith, b, up, t)))
+        | inr x ↦ (let a = x.0 in let b = x.1 in between_is l.passage.from l.passage.to pc (omega (arith, a, low, up)) (omega (arith, b, t)))
+      ]
 
   base_small : o.loader.base + 512 < 262144
   base_small = over.laid.loader.base
@@ -176,7 +186,7 @@ module _ (p : Prog) (limit : ℕ) (l : Layout) (laid : IsLaid p limit l) (linkab
         let few = over.regions f i (y, e) in
         let settle = settled o q (l.region f) (l.at f i) link n (is_between l) arrives (λ pc h. passage_between q pc low up h) (not_between f i y e) in
         let v : State = settles (is_between l) 255 n in
-        let arrived : Arrived o (l.region f) (l.at f i) link n v = settle.0 in
+        let arrived : Arrived o (l.region f) (l.at f i) link n v = subst (Arrived o (l.region f) (l.at f i) link n) (sym settle.0) arrives.arrived in
         let again = ready_again o (l.region f) (l.at f i) link n v over.laid ready_n few arrived in
         record {
           related = record {
@@ -297,7 +307,7 @@ module _ (p : Prog) (limit : ℕ) (l : Layout) (laid : IsLaid p limit l) (linkab
             let small = below p limit l laid frames f i y e in
             carry (record s { calls = cs }) n f i (s.steps + 1) o.loader.base (m.regs 0) none (carried_goes l s m cs (code_mask (word_of (m.regs 0) 0)) matched) (matched.regs 0) ready_n refl refl lower (omega arith)
             (subst (λ q. Arrives o o.loader.base q (l.at f i) (m.regs 0) n) (sym is)
-            (return_entry o (suc r) (l.at f i) n over.laid ready_n (omega arith, subst (λ q. q ≤ o.regions) is few) (laid.aligned f i (y, e)) (omega arith) pc
+            (return_entry o (suc r) (l.at f i) n over.laid ready_n (omega arith, subst (λ q. q ≤ o.regions) is few) (laid.aligned f i (y, e), omega arith) pc
             (link_whole f i (o.loader.base + RETURN_OFFSET) (suc r) (l.at f i) 0 t (region_link f i r is))))
 
     -- ---- calls

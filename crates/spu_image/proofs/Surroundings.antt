@@ -59,7 +59,7 @@ module _ (p : Prog) (limit : ℕ) (l : Layout) (laid : IsLaid p limit l) (o : Ov
   place_lies r j is h =
       let b = below_buffers o.loader r over.laid.loader in
       let c = b.0 in
-      let s = over.laid.small r is in
+      let s = (over.laid.each r is).small in
       let q = buffer_bounds (2 ^ o.loader.shift) (buffer_of o r) o.loader.buffers c in
       let f = buffers_from in
       let t = buffers_to in
