@@ -78,8 +78,8 @@ pub record LoadsAsVisited (l : Layout) (buffers : ℕ) (state : ℕ → Sym) (be
 abbrev pub HopLoadsAsVisited : Layout → ℕ → (ℕ → Sym) → State → ℕ → Type 0
 HopLoadsAsVisited l buffers state begin n = (r : ℕ) → 1 ≤ r → loads_of_hop l buffers r (hops (is_between l) (step begin) n) ≡ (if misses_at l.region buffers state n r then 1 else 0)
 
--- What this tells of the machine's run, step by step: after most_steps k steps and ever after, each region was loaded as often as it was missed in k steps, or more often, and exactly so often
--- where the symbolic run has ended
+-- What this tells of the machine's run, step by step: after most_steps k steps and ever after, each region was loaded at least as often as
+-- it was missed in k steps, and exactly so often where the symbolic run has ended.
 pub record LoadsTold (l : Layout) (buffers k : ℕ) (state : ℕ → Sym) (begin : State) : Type 0 where
   pub least : (n : ℕ) → most_steps k ≤ n → (r : ℕ) → 1 ≤ r → miss_count buffers r (visits l.region state k) ≤ loads_in l buffers r n begin
   pub exact : (e : IdealEnd) → (state k).ended ≡ Some e → (n : ℕ) → most_steps k ≤ n → (r : ℕ) → 1 ≤ r
