@@ -1,5 +1,5 @@
 -- What the hops of an overlay executable of a judged program load.
-use Rattle.std.proofs.Common.{◌≡◌, ℕ, suc, ◌<◌, ◌≤◌, true, List, length, Option, Some, None, refl, sym, ap, ◌∙◌, subst}
+use Rattle.std.proofs.Common.{◌≡◌, ℕ, suc, ◌<◌, ◌≤◌, true, List, length, Option, Some, None, refl, sym, ap, ◌∙◌, subst, arith}
 use Rattle.spu_word.specs.Bytes.{quad_of}
 use Rattle.spu_word.specs.declared.limits.TheConstants.{MAX_FILE_SIZE}
 use Rattle.spu_word.specs.declared.load.Inputs.{Inputs}
@@ -56,7 +56,7 @@ module _ (p : Prog) (frames : ℕ → ℕ) (need : ℕ) (judged : IsJudged p fra
     inside n = IsInside p frames limit inputs n
 
     slots : l.slots.from ≡ mapped_at around.loader 0
-    slots = refl
+    slots = omega arith
 
     follow : IsFollowed l around over.laid slots state begin inside
     follow =
