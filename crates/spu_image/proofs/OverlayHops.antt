@@ -40,7 +40,7 @@ use Rattle.spu_image.specs.Matching.{SameEnd, Matches, Meant}
 use Rattle.spu_image.specs.Headline.{Hop}
 use Rattle.spu_image.proofs.Sound.{bounded}
 use Rattle.spu_image.proofs.Promised.{IsLinkable, Inside, Stepped}
-use Rattle.spu_image.proofs.Relations.{IsPromised, Kept}
+use Rattle.spu_image.proofs.Relations.{IsPromised}
 use Rattle.spu_image.proofs.LoaderRelations.{Surrounds, IsBegunAround, Related}
 use Rattle.spu_image.proofs.Agreement.{agrees_link, link_byte, link_leads}
 use Rattle.spu_image.proofs.Steps.{below, next_is, goes_hop}

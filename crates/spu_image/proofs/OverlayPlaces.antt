@@ -3,7 +3,7 @@ use Rattle.std.proofs.Common.{◌≡◌, ◌≢◌, ℕ, zero, suc, ◌+◌, ◌
 use Rattle.std.specs.Prelude.{slice_get, slice_index, replicate, Contains, if◌then◌else◌}
 use Rattle.std.specs.List.{concat}
 use Rattle.std.proofs.lemmas.Bool.{cases_lt, eq-eqb, eqb-true}
-use Rattle.std.proofs.lemmas.List.{length-append, length-map}
+use Rattle.std.proofs.lemmas.List.{length-map}
 use Rattle.std.proofs.lemmas.List.Elements.{All-head, All-tail}
 use Rattle.std.proofs.lemmas.Nat.{pow_below}
 use Rattle.std.proofs.lemmas.Option.{slice_get_within}
@@ -26,7 +26,7 @@ use Rattle.spu_layout.specs.Layouts.{span}
 use Rattle.spu_layout.specs.Placing.{section_sizes, sizes_of, size_in, region_size, root_end, stub, loader_start, table_end, buffers_start, region_start, section_start, function_start, at, region_of_function, region, overlay_layout}
 use Rattle.spu_layout.specs.Planned.{IsPlanned}
 use Rattle.spu_layout.specs.Views.{LieInStore}
-use Rattle.spu_layout.proofs.Regions.{long_regions, region_quads, within_region}
+use Rattle.spu_layout.proofs.Regions.{region_quads, within_region}
 use Rattle.spu_layout.proofs.Sizes.{size_at}
 use Rattle.spu_layout.proofs.Overlaid.{bounds, below, few, in_store, region_is_small, some}
 use Rattle.spu_image.specs.Overlays.{loader_of}

@@ -1,11 +1,11 @@
 -- What the store holds in which a run of an overlay image starts: what a run needs, and what the loader finds.
-use Rattle.std.proofs.Common.{◌≡◌, ◌≢◌, ℕ, zero, suc, ◌+◌, ◌-◌, ◌*◌, ◌/◌, ◌%◌, ◌^◌, ◌≤◌, ◌<◌, ◌⊎◌, true, List, [], ◌∷◌, ◌++◌, length, drop, map, get_or, replicate, Option, Some, None, refl, sym, ap, ◌∙◌, inl, inr, subst, append_assoc, arith}
+use Rattle.std.proofs.Common.{◌≡◌, ◌≢◌, ℕ, zero, suc, ◌+◌, ◌-◌, ◌*◌, ◌/◌, ◌%◌, ◌^◌, ◌≤◌, ◌<◌, ◌⊎◌, true, List, [], ◌∷◌, ◌++◌, length, drop, map, get_or, replicate, Option, Some, None, refl, sym, ap, ◌∙◌, inl, inr, subst, arith}
 use Rattle.std.specs.Prelude.{slice_get, slice_index}
 use Rattle.std.specs.List.{flat_map, range_with_len}
 use Rattle.std.proofs.lemmas.List.{get_or_append_left, length-append, length-drop, length-replicate}
 use Rattle.std.proofs.lemmas.Option.{slice_get_within}
 use Rattle.spu_word.specs.Bytes.{be_digits, quad_of}
-use Rattle.spu_word.specs.declared.limits.TheConstants.{DATA_START, MAX_TRANSFER_SIZE, STORE_SIZE}
+use Rattle.spu_word.specs.declared.limits.TheConstants.{MAX_TRANSFER_SIZE}
 use Rattle.spu_word.specs.declared.load.Inputs.{Inputs}
 use Rattle.spu_word.proofs.Stands.{Stands, stands_after, stands_at, stands_last, stands_more, stands_whole}
 use Rattle.spu_isa.specs.declared.instruction.Inst.{Inst}
@@ -15,21 +15,20 @@ use Rattle.spu_exec.specs.Transfers.{Stretch}
 use Rattle.spu_lift.specs.declared.program.Function.{Function}
 use Rattle.spu_lift.specs.declared.program.SymInst.{SymInst}
 use Rattle.spu_lift.specs.declared.program.Prog.{Prog}
-use Rattle.spu_lift.specs.Places.{place_in, instruction_at, IsPlace}
+use Rattle.spu_lift.specs.Places.{place_in, IsPlace}
 use Rattle.spu_lift.specs.WellFormed.{IsWellFormed}
 use Rattle.spu_plan.specs.declared.plan.Plan.{Plan}
-use Rattle.spu_ls.specs.Stores.{Store, fetch, load, placed}
+use Rattle.spu_ls.specs.Stores.{Store, fetch, load}
 use Rattle.spu_ls.specs.Start as starting
 use Rattle.spu_loader.specs.Code.{image_quad, loader_code, mapped_at, return_quad, step_quad, stub_code}
 use Rattle.spu_loader.specs.Forms.{HasCode}
 use Rattle.spu_loader.specs.Overlays.{Overlay, HasBuffer, Holds, IsRegion, IsStub, buffer_of, entry_of, place_of, return_entry_of}
-use Rattle.spu_loader.proofs.Stores.{fetch_agree, load_agree, placed_inside, placed_other}
+use Rattle.spu_loader.proofs.Stores.{fetch_agree, load_agree, placed_other}
 use Rattle.spu_ideal.specs.Machine.{entry_of as area_entry, start}
 use Rattle.spu_layout.specs.Labels.{code as labels}
-use Rattle.spu_layout.specs.declared.layout.Span.{Span}
 use Rattle.spu_layout.specs.Layouts.{Layout, IsLaid, IsShared}
 use Rattle.spu_layout.specs.Planned.{IsPlanned}
-use Rattle.spu_layout.specs.Placing.{buffers_start, constants_start, loader_start, overlay_layout, region, region_size, region_start, root_end, slots_start, stub, table_end, table_start}
+use Rattle.spu_layout.specs.Placing.{buffers_start, constants_start, loader_start, overlay_layout, region_size, region_start, root_end, slots_start, table_end}
 use Rattle.spu_layout.proofs.Regions.{region_quads}
 use Rattle.spu_layout.proofs.Overlaid.{bounds}
 use Rattle.spu_image.specs.Agreeing.{Agrees}
@@ -38,12 +37,12 @@ use Rattle.spu_image.specs.Images.{bytes_of_words, data_bytes, start_quad}
 use Rattle.spu_image.specs.Overlays.{IsOverlayExec, loader_of, passage_code, region_bytes, segment_offset, stub_codes, table, table_entry}
 use Rattle.spu_image.specs.Overlays as images
 use Rattle.spu_image.proofs.FlatImages.{data_of}
-use Rattle.spu_image.proofs.OverlayPlaces.{few_regions, made, regions_below, start_of, surroundings}
+use Rattle.spu_image.proofs.OverlayPlaces.{few_regions, made, regions_below, surroundings}
 use Rattle.spu_image.proofs.OverlayWords as words
 use Rattle.spu_image.proofs.Placing as placing
 use Rattle.spu_image.proofs.Relations.{HasData, IsStored}
-use Rattle.spu_image.proofs.StoreParts.{digits_stand, entry_stands, get_behind, get_front, load_is, placed_text, stands_item, stands_room, stands_within, stub_at, word_decoded}
-use Rattle.spu_image.proofs.Starting.{zero_at, zero_list}
+use Rattle.spu_image.proofs.StoreParts.{digits_stand, entry_stands, get_behind, get_front, load_is, placed_text, stands_within, stub_at, word_decoded}
+use Rattle.spu_image.proofs.Starting.{zero_at}
 use Rattle.spu_image.proofs.Tails.{stubs_long, tail_long, words_long}
 use Rattle.spu_image.proofs.WordLaws.{decodes_small}
 use Rattle.spu_isa.proofs.Decoded.{decoded_decodes}
@@ -254,10 +253,12 @@ module _ (p : Prog) (plan : Plan) (limit : ℕ) (well : IsWellFormed p) (planned
         let stubs = stub_words in
         let others = length-drop 1 p.functions in
         let long = code_long in
+        let same : 1 + f ≡ suc f = omega arith in
         let i : ℕ = 4 * f + n in
         instruction_there i (l.entry (suc f) + 4 * n) (omega (arith, long, lt, few)) (omega arith)
         ∙ (get_front (stub_codes (loader_start p plan) l 1 (drop 1 p.functions)) (loader_code o.loader) i (omega (arith, stubs, lt, few))
-        ∙ stub_at (loader_start p plan) l 1 (drop 1 p.functions) f n (omega (arith, others, few)) lt)
+        ∙ (stub_at (loader_start p plan) l 1 (drop 1 p.functions) f n (omega (arith, others, few)) lt
+        ∙ ap (λ h. slice_get (stub_code o.loader.base (l.entry h) (l.region h) (l.at h 0)) n) same))
 
     pub stub_is : (f : ℕ) → f ≢ 0 → IsPlace p f 0 → IsStub o (l.entry f) (l.region f) (l.at f 0) m
     stub_is zero some place = absurd (some refl)

@@ -1,11 +1,10 @@
 -- Where the words of places stand in an overlay executable: those of the root in the load segment, those of a region in its segment.
-use Rattle.std.proofs.Common.{◌≡◌, ℕ, zero, suc, ◌+◌, ◌-◌, ◌*◌, ◌/◌, ◌%◌, ◌^◌, ◌≤◌, ◌<◌, List, [], ◌∷◌, ◌++◌, length, map, get_or, Option, Some, None, true, refl, sym, ap, ◌∙◌, subst, append_assoc, arith}
+use Rattle.std.proofs.Common.{◌≡◌, ℕ, zero, suc, ◌+◌, ◌-◌, ◌*◌, ◌/◌, ◌≤◌, ◌<◌, List, [], ◌∷◌, ◌++◌, length, map, Option, Some, None, true, refl, sym, ap, ◌∙◌, subst, append_assoc, arith}
 use Rattle.std.specs.Prelude.{slice_get, slice_index, slice_index_or}
 use Rattle.std.specs.List.{range_with_len}
 use Rattle.std.proofs.lemmas.List.{get_or_append_left, get_or-append-add, length-append}
 use Rattle.std.proofs.lemmas.Option.{slice_get_within}
 use Rattle.spu_word.specs.Bytes.{be_digits, be_number}
-use Rattle.spu_word.specs.declared.limits.TheConstants.{MAX_FILE_SIZE}
 use Rattle.spu_word.proofs.Stands.{Stands, stands_number}
 use Rattle.spu_elf.specs.Spelling.{spell_exec}
 use Rattle.spu_elf.specs.declared.executables.Segment.{Segment}
@@ -20,10 +19,10 @@ use Rattle.spu_lift.specs.WellFormed.{IsWellFormed}
 use Rattle.spu_plan.specs.declared.plan.Plan.{Plan}
 use Rattle.spu_plan.specs.Plans.{rounded}
 use Rattle.spu_layout.specs.Layouts.{Layout}
-use Rattle.spu_layout.specs.Placing.{at, function_start, overlay_layout, region, region_of_function, region_size, region_start, section_sizes, section_start, size_in, sizes_of}
+use Rattle.spu_layout.specs.Placing.{at, function_start, overlay_layout, region, region_of_function, region_size, region_start, section_start}
 use Rattle.spu_layout.specs.Planned.{IsPlanned}
 use Rattle.spu_image.specs.Words.{IsWord}
-use Rattle.spu_image.specs.Images.{AreWords, Holds, bytes_of_words, data_bytes, start_quad}
+use Rattle.spu_image.specs.Images.{Holds, bytes_of_words, data_bytes, start_quad}
 use Rattle.spu_image.specs.Overlays.{IsOverlayExec, in_region, region_bytes, region_segment, root_segment, segment_offset, tail}
 use Rattle.spu_image.proofs.Made.{words_append}
 use Rattle.spu_image.proofs.OverlayImages.{region_length}

@@ -1,5 +1,5 @@
 -- The headline of an overlay executable of a judged program.
-use Rattle.std.proofs.Common.{◌≡◌, ◌≢◌, ℕ, zero, suc, ◌+◌, ◌-◌, ◌*◌, ◌%◌, ◌^◌, ◌<◌, ◌≤◌, true, List, length, map, Option, Some, None, refl, sym, ap, ◌∙◌, subst, arith}
+use Rattle.std.proofs.Common.{◌≡◌, ℕ, zero, suc, ◌+◌, ◌-◌, ◌%◌, ◌^◌, ◌≤◌, ⊎_elim, true, false, List, length, map, Option, Some, refl, sym, ap, ◌∙◌, subst, arith}
 use Rattle.std.specs.Prelude.{if◌then◌else◌}
 use Rattle.spu_word.specs.Bytes.{be_number, quad_of}
 use Rattle.spu_word.specs.declared.limits.TheConstants.{MAX_FILE_SIZE}
@@ -11,9 +11,10 @@ use Rattle.spu_exec.specs.Entries.{Entry}
 use Rattle.spu_exec.specs.Transfers.{Stretch}
 use Rattle.spu_lift.specs.declared.program.SymInst.{SymInst}
 use Rattle.spu_lift.specs.declared.program.Prog.{Prog}
-use Rattle.spu_lift.specs.Places.{instruction_at, IsPlace}
+use Rattle.spu_lift.specs.Places.{instruction_at}
 use Rattle.spu_lift.specs.WellFormed.{IsWellFormed}
 use Rattle.spu_plan.specs.declared.plan.Plan.{Plan}
+use Rattle.spu_plan.specs.Choices.{IsFlatPlan, IsOverlayPlan}
 use Rattle.spu_ls.specs.Stores.{Store, load}
 use Rattle.spu_ls.specs.Machine.{State}
 use Rattle.spu_ls.specs.Machine as machine
@@ -26,12 +27,14 @@ use Rattle.spu_loader.specs.Overlays.{Overlay, HasBuffer, Holds, HoldsFile, IsSt
 use Rattle.spu_ideal.specs.Machine.{entry_of, IsInside}
 use Rattle.spu_ideal.specs.States.{IsJudged}
 use Rattle.spu_layout.specs.Layouts.{Layout, IsLaid}
-use Rattle.spu_layout.specs.Placing.{flat_layout, layout_of, overlay_layout, region, region_size, region_start}
+use Rattle.spu_layout.specs.Placing.{flat_layout, layout_of, overlay_layout, region_size, region_start}
 use Rattle.spu_layout.specs.Planned.{IsPlanned}
-use Rattle.spu_layout.proofs.Overlaid.{planned_is_laid}
+use Rattle.spu_layout.proofs.Overlaid.{flat_fits, planned_is_laid}
 use Rattle.spu_image.specs.Words.{IsWord}
 use Rattle.spu_image.specs.Headline.{CanStart, Hop, Headline}
-use Rattle.spu_image.specs.Overlays.{IsOverlayExec, overlay_symbols, segment_offset}
+use Rattle.spu_image.specs.Images.{IsFlatExec}
+use Rattle.spu_image.specs.Overlays.{IsOverlayExec, segment_offset}
+use Rattle.spu_image.proofs.FlatImages.{flat_headline}
 use Rattle.spu_image.proofs.LoaderRelations.{IsBegunAround, Surrounds}
 use Rattle.spu_image.proofs.OverlayHops.{overlay_hops}
 use Rattle.spu_image.proofs.OverlayPlaces.{regions_below, start_of, surrounds}
@@ -41,7 +44,6 @@ use Rattle.spu_image.proofs.OverlaySymbols.{overlay_entries, overlay_image}
 use Rattle.spu_image.proofs.OverlayWords.{region_room, word_in_file}
 use Rattle.spu_image.proofs.Promised.{linkable_of}
 use Rattle.spu_image.proofs.Promising.{promised}
-use Rattle.spu_image.proofs.Relations.{IsBegun}
 use Rattle.spu_image.proofs.SegmentPlaces.{segment_at_quads}
 use Rattle.spu_image.proofs.Starting.{begins, image_same, same_store, store_same}
 
@@ -169,3 +171,12 @@ planned_headline p frames need judged plan limit least planned flag told x file 
     let e = overlay_is p plan limit flag in
     subst (λ l. Headline p l frames limit need x file) (sym e)
     (overlay_headline p frames need judged limit least plan planned flag told x (subst (λ l. IsOverlayExec p plan l limit told x) e image) file spelled small)
+
+-- an executable of the program by a plan that is made for it, flat or with overlays
+pub made_headline : (p : Prog) (frames : ℕ → ℕ) (need : ℕ) → IsJudged p frames need → (plan : Plan) (limit : ℕ) → need ≤ limit → IsPlanned p plan limit → (told : ℕ → Option ℕ) (x : Exec) (file : List ℕ)
+    → (plan.overlay ≡ false → IsFlatExec p (layout_of p plan limit) limit told x) → (plan.overlay ≡ true → IsOverlayExec p plan (layout_of p plan limit) limit told x)
+    → file ≡ spell_exec x → length file ≤ MAX_FILE_SIZE → Headline p (layout_of p plan limit) frames limit need x file
+made_headline p frames need judged plan limit least planned told x file flat overlays spelled small =
+    ⊎_elim (λ (is : IsFlatPlan planned.input plan). flat_headline p frames need judged plan limit least (flat_fits p plan limit planned.input planned.of is) told x file (flat (ap (λ (q : Plan). q.overlay) is.is)))
+    (λ (is : IsOverlayPlan planned.input plan). planned_headline p frames need judged plan limit least planned is.overlay told x file (overlays is.overlay) spelled small)
+    planned.is

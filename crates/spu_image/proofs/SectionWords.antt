@@ -1,11 +1,8 @@
 -- Where the words of a section stand among those of its region.
-use Rattle.std.proofs.Common.{◌≡◌, ℕ, zero, suc, ◌+◌, ◌*◌, ◌^◌, ◌≤◌, ◌<◌, Bool, true, false, eqb, List, [], ◌∷◌, ◌++◌, length, get_or, Some, refl, sym, ap, ◌∙◌, subst, append_assoc, arith}
+use Rattle.std.proofs.Common.{◌≡◌, ℕ, zero, suc, ◌+◌, ◌*◌, ◌<◌, Bool, true, false, eqb, List, [], ◌∷◌, ◌++◌, length, Some, refl, sym, ap, ◌∙◌, subst, arith}
 use Rattle.std.specs.Prelude.{if◌then◌else◌, slice_get, slice_index, slice_index_or}
-use Rattle.std.specs.List.{flat_map}
 use Rattle.std.proofs.lemmas.Bool.{eq-eqb}
-use Rattle.std.proofs.lemmas.List.{length-append}
-use Rattle.spu_word.specs.Bytes.{be_digits, be_number}
-use Rattle.spu_word.proofs.Stands.{Stands, stands_after, stands_inner, stands_last, stands_more, stands_whole}
+use Rattle.spu_word.proofs.Stands.{Stands, stands_after, stands_more, stands_whole}
 use Rattle.spu_lift.specs.declared.program.CodeSection.{CodeSection}
 use Rattle.spu_plan.specs.Plans.{rounded}
 use Rattle.spu_layout.specs.Placing.{section_sizes, size_in}

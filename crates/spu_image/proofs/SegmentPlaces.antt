@@ -1,10 +1,10 @@
 -- Where the file of an executable has its segments.
-use Rattle.std.proofs.Common.{◌≡◌, ℕ, zero, suc, ◌+◌, ◌*◌, ◌%◌, ◌≤◌, ◌<◌, List, [], ◌∷◌, ◌++◌, length, map, replicate, Some, refl, sym, ap, ◌∙◌, subst, append_assoc, arith}
+use Rattle.std.proofs.Common.{◌≡◌, ℕ, zero, suc, ◌+◌, ◌%◌, List, [], ◌∷◌, ◌++◌, length, map, replicate, Some, refl, sym, ap, ◌∙◌, subst, append_assoc, arith}
 use Rattle.std.specs.Prelude.{slice_get}
 use Rattle.std.proofs.lemmas.List.{length-append, length-replicate}
 use Rattle.spu_word.proofs.Stands.{Stands, stands_more}
 use Rattle.spu_elf.specs.Rows.{begins, front_size, padding}
-use Rattle.spu_elf.specs.Spelling.{Part, image_front, segment_part, segment_parts, spell_exec}
+use Rattle.spu_elf.specs.Spelling.{Part, image_front, segment_parts, spell_exec}
 use Rattle.spu_elf.specs.declared.executables.Segment.{Segment}
 use Rattle.spu_elf.specs.declared.executables.Exec.{Exec}
 use Rattle.spu_elf.proofs.ExecutableSpelling.{body, end_of, front_of, heads, length_front, parts_of, segs_of, shoff_of, spelled, table_parts}

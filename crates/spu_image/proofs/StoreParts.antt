@@ -1,13 +1,13 @@
 -- What a store holds in which bytes were placed, part by part.
-use Rattle.std.proofs.Common.{◌≡◌, ℕ, zero, suc, ◌+◌, ◌-◌, ◌*◌, ◌^◌, ◌≤◌, ◌<◌, ◌⊎◌, List, [], ◌∷◌, ◌++◌, length, get_or, map, replicate, Option, Some, None, refl, sym, ap, ◌∙◌, inl, inr, subst, append_assoc, arith}
+use Rattle.std.proofs.Common.{◌≡◌, ℕ, zero, suc, ◌+◌, ◌-◌, ◌*◌, ◌≤◌, ◌<◌, List, [], ◌∷◌, ◌++◌, length, get_or, Some, refl, ap, ◌∙◌, subst, append_assoc, arith}
 use Rattle.std.specs.Prelude.{slice_get, slice_index}
 use Rattle.std.specs.List.{flat_map, range_with_len}
 use Rattle.std.proofs.lemmas.List.{get_or_append_left, get_or-append-add, length-append}
 use Rattle.spu_word.specs.Bytes.{be_digits, quad_of}
-use Rattle.spu_word.proofs.Stands.{Stands, stands_after, stands_at, stands_inner, stands_more, stands_whole}
+use Rattle.spu_word.proofs.Stands.{Stands, stands_after, stands_at, stands_more, stands_whole}
 use Rattle.spu_isa.specs.declared.instruction.Inst.{Inst}
 use Rattle.spu_isa.specs.Decoding.{decoded}
-use Rattle.spu_ls.specs.Stores.{Store, fetch, load, placed}
+use Rattle.spu_ls.specs.Stores.{Store, load, placed}
 use Rattle.spu_loader.specs.Code.{stub_code}
 use Rattle.spu_loader.specs.Forms.{AreWordsOf}
 use Rattle.spu_loader.proofs.Stores.{placed_inside}
