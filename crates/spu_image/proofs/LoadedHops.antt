@@ -1,5 +1,5 @@
 -- What a hop loads: a region that it comes to and that isn't mapped in its buffer, once; and nothing else.
-use Rattle.std.proofs.Common.{◌≡◌, ◌≢◌, ℕ, zero, suc, ◌+◌, ◌-◌, ◌*◌, ◌<◌, ◌≤◌, ◌⊎◌, ◌^◌, List, None, refl, sym, ap, ◌∙◌, arith, inl, inr, Bool, true, false}
+use Rattle.std.proofs.Common.{◌≡◌, ◌≢◌, ℕ, zero, suc, ◌+◌, ◌-◌, ◌<◌, ◌≤◌, ◌⊎◌, ◌^◌, List, None, refl, sym, ap, ◌∙◌, arith, inl, inr, Bool, true, false}
 use Rattle.std.specs.Prelude.{◌==◌, ◌&&◌, not, if◌then◌else◌, get_or}
 use Rattle.std.proofs.lemmas.Bool.{cases_lt, eq-eqb, ne_eqb}
 use Rattle.std.proofs.lemmas.Bool.Decides.{nat_tests}
@@ -7,11 +7,10 @@ use Rattle.spu_word.specs.Bytes.{quad_of}
 use Rattle.spu_ls.specs.Stores.{Store, load, fetch, bytes_from}
 use Rattle.spu_ls.specs.Machine.{State, step, steps}
 use Rattle.spu_ls.specs.Hops.{settles}
-use Rattle.spu_ls.specs.Loads.{is_load, load_count}
+use Rattle.spu_ls.specs.Loads.{load_count}
 use Rattle.spu_loader.specs.Code.{mapped_at}
 use Rattle.spu_loader.specs.Overlays.{Overlay, buffer_of, slot_of, IsLaid, IsMapped}
 use Rattle.spu_loader.specs.Entries.{Arrived, Arrives, is_missed}
-use Rattle.spu_loader.proofs.Joining.{next_step}
 use Rattle.spu_loader.proofs.Stores.{fetch_agree}
 use Rattle.spu_loader.proofs.Ready.{below_buffers, facts, region}
 use Rattle.spu_loader.proofs.Missing.{loads_as_missed}

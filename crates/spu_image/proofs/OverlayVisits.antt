@@ -1,5 +1,5 @@
 -- A run of an overlay image from a start with nothing mapped: its hops load as the symbolic run's visits miss.
-use Rattle.std.proofs.Common.{◌≡◌, ℕ, suc, ◌+◌, ◌*◌, ◌<◌, ◌⊎◌, None, refl, sym, ap, ◌∙◌, subst, arith, inl}
+use Rattle.std.proofs.Common.{◌≡◌, ℕ, suc, ◌<◌, ◌⊎◌, None, refl, sym, ap, ◌∙◌, subst, arith, inl}
 use Rattle.spu_word.specs.Bytes.{quad_of}
 use Rattle.spu_word.specs.declared.load.Inputs.{Inputs}
 use Rattle.spu_lift.specs.declared.program.Prog.{Prog}

@@ -1,13 +1,11 @@
 -- What the hops of an overlay executable of a judged program load.
-use Rattle.std.proofs.Common.{◌≡◌, ℕ, suc, ◌<◌, ◌≤◌, true, List, length, Option, Some, None, refl, sym, ap, ◌∙◌, subst, arith}
-use Rattle.spu_word.specs.Bytes.{quad_of}
+use Rattle.std.proofs.Common.{◌≡◌, ℕ, suc, ◌≤◌, true, List, length, Option, Some, refl, sym, subst, arith}
 use Rattle.spu_word.specs.declared.limits.TheConstants.{MAX_FILE_SIZE}
 use Rattle.spu_word.specs.declared.load.Inputs.{Inputs}
 use Rattle.spu_elf.specs.Spelling.{spell_exec}
 use Rattle.spu_elf.specs.declared.executables.Exec.{Exec}
 use Rattle.spu_lift.specs.declared.program.Prog.{Prog}
 use Rattle.spu_plan.specs.declared.plan.Plan.{Plan}
-use Rattle.spu_ls.specs.Stores.{load}
 use Rattle.spu_ls.specs.Machine.{State}
 use Rattle.spu_ls.specs.Machine as machine
 use Rattle.spu_ls.specs.Start.{start}

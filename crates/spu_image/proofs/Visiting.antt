@@ -4,23 +4,23 @@ use Rattle.std.proofs.Common.{◌≡◌, ◌≢◌, ℕ, zero, suc, ◌+◌, ◌
 use Rattle.std.specs.Prelude.{◌==◌, ◌&&◌, not, if◌then◌else◌}
 use Rattle.std.proofs.lemmas.Bool.{cases_Bool, and_parts, eqb-true, eqb-false, eq-eqb, ne_eqb}
 use Rattle.spu_ls.specs.declared.ending.RunEnd.{RunEnd}
-use Rattle.spu_ls.specs.Stores.{Store, fetch}
+use Rattle.spu_ls.specs.Stores.{fetch}
 use Rattle.spu_ls.specs.Machine.{State, step, steps}
 use Rattle.spu_ls.specs.Hops.{settles, hop}
 use Rattle.spu_ls.specs.Loads.{is_load, load_count}
 use Rattle.spu_ideal.specs.declared.ending.IdealEnd.{IdealEnd}
-use Rattle.spu_ideal.specs.State.{Sym, IsOutside}
+use Rattle.spu_ideal.specs.State.{Sym}
 use Rattle.spu_layout.specs.Layouts.{Layout, is_between}
 use Rattle.spu_loader.specs.Code.{mapped_at}
-use Rattle.spu_loader.specs.Overlays.{Overlay, buffer_of, slot_of, IsLaid}
+use Rattle.spu_loader.specs.Overlays.{Overlay, buffer_of, IsLaid}
 use Rattle.spu_loader.specs.Entries.{is_missed}
 use Rattle.spu_loader.proofs.Counting.{kept_word, no_load}
 use Rattle.spu_loader.proofs.Ready.{below_buffers}
 use Rattle.spu_image.specs.Headline.{hops}
 use Rattle.spu_image.specs.Endings.{most_steps}
-use Rattle.spu_image.specs.Visits.{is_visit, visits, is_in_buffer, last_in, is_miss_of, miss_count, loads_in, loads_of_hop, misses_at, LoadsAsVisited, HopLoadsAsVisited, LoadsTold}
-use Rattle.spu_image.proofs.Growing.{step_counts, step_stays, steps_stay}
-use Rattle.spu_image.proofs.HopSteps.{IsLed, settles_led, hop_led, hops_led, begun_led, led_later}
+use Rattle.spu_image.specs.Visits.{is_visit, visits, is_in_buffer, last_in, is_miss_of, miss_count, loads_in, misses_at, LoadsAsVisited, HopLoadsAsVisited, LoadsTold}
+use Rattle.spu_image.proofs.Growing.{step_counts, step_stays}
+use Rattle.spu_image.proofs.HopSteps.{IsLed, settles_led, hop_led, begun_led}
 use Rattle.spu_image.proofs.LoadedHops.{word_in, no_steps, HopLoads, missed_none}
 
 -- ---- tests
