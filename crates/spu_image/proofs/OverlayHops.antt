@@ -125,44 +125,46 @@ module _ (p : Prog) (limit : ℕ) (l : Layout) (laid : IsLaid p limit l) (linkab
 
     stay : (t : Sym) (n : State) → Stepped l s.f m t n → Q t n
     stay t n h sound there =
-        let place : is_between l n.pc ≡ false = ap (is_between l) h.matched.place ∙ not_between t.f t.i there.placed.0 there.placed.1 in
-        (arrives_here l (Related o l first) t n place (record {
-          kept = record { matched = h.matched; sound = sound; fixed = λ a f. h.kept a (apart p limit l laid a f) ∙ related.kept.fixed a f; image = h.image ∙ related.kept.image };
-          buffers = λ k lt. subst (HasBuffer o k n.store) (sym h.image) (buffer_kept p limit l laid o over m.store n.store m.image k lt h.kept (related.buffers k lt));
-          current = subst (λ f. (l.region f ≡ 0) ⊎ ((1 ≤ l.region f) × IsMapped o (l.region f) n.store n.image)) (sym h.function)
-              (elim related.current [
-                | inl e ↦ inl e
-                | inr e ↦ inr (
-                  e.0,
-                  subst (IsMapped o (l.region s.f) n.store) (sym h.image)
-                      (mapped_kept p limit l laid o over m.store n.store m.image (l.region s.f) (e.0, over.regions s.f s.i high.placed) h.kept e.1),
-                )
-              ]);
-        }),
-        loads_here o over.laid (is_between l) (l.region t.f) m n (settles_here (is_between l) 255 n place) (words_kept p limit l laid o over m n h.kept)
-            (subst (λ f. (l.region f ≡ 0) ⊎ (word_in o m (buffer_of o (l.region f)) ≡ l.region f)) (sym h.function) (current_named p limit l laid o over (l.region s.f) m (over.regions s.f s.i high.placed) related.current)))
+        let place : is_between l n.pc ≡ false = ap (is_between l) h.matched.place ∙ not_between t.f t.i there.placed.0 there.placed.1 in (
+          arrives_here l (Related o l first) t n place (record {
+            kept = record { matched = h.matched; sound = sound; fixed = λ a f. h.kept a (apart p limit l laid a f) ∙ related.kept.fixed a f; image = h.image ∙ related.kept.image };
+            buffers = λ k lt. subst (HasBuffer o k n.store) (sym h.image) (buffer_kept p limit l laid o over m.store n.store m.image k lt h.kept (related.buffers k lt));
+            current = subst (λ f. (l.region f ≡ 0) ⊎ ((1 ≤ l.region f) × IsMapped o (l.region f) n.store n.image)) (sym h.function)
+                (elim related.current [
+                  | inl e ↦ inl e
+                  | inr e ↦ inr (
+                    e.0,
+                    subst (IsMapped o (l.region s.f) n.store) (sym h.image)
+                        (mapped_kept p limit l laid o over m.store n.store m.image (l.region s.f) (e.0, over.regions s.f s.i high.placed) h.kept e.1),
+                  )
+                ]);
+          }),
+          loads_here o over.laid (is_between l) (l.region t.f) m n (settles_here (is_between l) 255 n place) (words_kept p limit l laid o over m n h.kept)
+              (subst (λ f. (l.region f ≡ 0) ⊎ (word_in o m (buffer_of o (l.region f)) ≡ l.region f)) (sym h.function) (current_named p limit l laid o over (l.region s.f) m (over.regions s.f s.i high.placed) related.current)),
+        )
 
     -- ---- to a place at once
 
     direct : (u : Sym) (n : State) (f i k : ℕ) → Carried l u n → AgreesQuad (code l) (u.regs 0) (n.regs 0) → n.pc ≡ l.at f i → n.store ≡ m.store → n.image ≡ m.image
         → (l.region f ≡ 0) ⊎ ((1 ≤ l.region f) × IsMapped o (l.region f) m.store m.image) → Q (record (forgets u) { f = f; i = i; steps = k }) n
     direct u n f i k c link place store image mapped sound there =
-        let here : is_between l n.pc ≡ false = ap (is_between l) place ∙ not_between f i there.placed.0 there.placed.1 in
-        (arrives_here l (Related o l first) (record (forgets u) { f = f; i = i; steps = k }) n here (record {
-          kept = record {
-            matched = carried_matches l u n f i k c link place;
-            sound = sound;
-            fixed = λ a h. ap (λ g. g a) store ∙ related.kept.fixed a h;
-            image = image ∙ related.kept.image;
-          };
-          buffers = λ j lt. subst (HasBuffer o j n.store) (sym image) (subst (λ g. HasBuffer o j g m.image) (sym store) (related.buffers j lt));
-          current = elim mapped [
-            | inl e ↦ inl e
-            | inr e ↦ inr (e.0, subst (IsMapped o (l.region f) n.store) (sym image) (subst (λ g. IsMapped o (l.region f) g m.image) (sym store) e.1))
-          ];
-        }),
-        loads_here o over.laid (is_between l) (l.region f) m n (settles_here (is_between l) 255 n here) (λ j lt. ap (λ g. fetch g (mapped_at o.loader j)) store)
-            (current_named p limit l laid o over (l.region f) m (over.regions f i there.placed) mapped))
+        let here : is_between l n.pc ≡ false = ap (is_between l) place ∙ not_between f i there.placed.0 there.placed.1 in (
+          arrives_here l (Related o l first) (record (forgets u) { f = f; i = i; steps = k }) n here (record {
+            kept = record {
+              matched = carried_matches l u n f i k c link place;
+              sound = sound;
+              fixed = λ a h. ap (λ g. g a) store ∙ related.kept.fixed a h;
+              image = image ∙ related.kept.image;
+            };
+            buffers = λ j lt. subst (HasBuffer o j n.store) (sym image) (subst (λ g. HasBuffer o j g m.image) (sym store) (related.buffers j lt));
+            current = elim mapped [
+              | inl e ↦ inl e
+              | inr e ↦ inr (e.0, subst (IsMapped o (l.region f) n.store) (sym image) (subst (λ g. IsMapped o (l.region f) g m.image) (sym store) e.1))
+            ];
+          }),
+          loads_here o over.laid (is_between l) (l.region f) m n (settles_here (is_between l) 255 n here) (λ j lt. ap (λ g. fetch g (mapped_at o.loader j)) store)
+              (current_named p limit l laid o over (l.region f) m (over.regions f i there.placed) mapped),
+        )
 
     -- ---- by the loader
 
@@ -195,24 +197,25 @@ module _ (p : Prog) (limit : ℕ) (l : Layout) (laid : IsLaid p limit l) (linkab
         let settle = settled o q (l.region f) (l.at f i) link n (is_between l) arrives (λ pc h. passage_between q pc low up h) (not_between f i y e) in
         let v : State = settles (is_between l) 255 n in
         let arrived : Arrived o (l.region f) (l.at f i) link n v = subst (Arrived o (l.region f) (l.at f i) link n) (sym settle.0) arrives.arrived in
-        let again = ready_again o (l.region f) (l.at f i) link n v over.laid ready_n few arrived in
-        (record {
-          related = record {
-            kept = record {
-              matched = carried_matches l u v f i k
-                  (carried_on l o u n v (l.region f) (l.at f i) link c arrived (λ a h. left n v (l.region f) (l.at f i) link few arrived a (λ is. shared_kept p limit l laid o over (l.region f) a is h)) g)
-                  (subst (AgreesQuad (code l) (u.regs 0)) (sym arrived.link_is) agrees) arrived.pc_is;
-              sound = settles_sound (is_between l) 255 n sound;
-              fixed = λ a h. left n v (l.region f) (l.at f i) link few arrived a (λ is. fixed_kept p limit l laid o over (l.region f) a is h) ∙ ap (λ g. g a) store ∙ related.kept.fixed a h;
-              image = arrived.image ∙ image ∙ related.kept.image;
+        let again = ready_again o (l.region f) (l.at f i) link n v over.laid ready_n few arrived in (
+          record {
+            related = record {
+              kept = record {
+                matched = carried_matches l u v f i k
+                    (carried_on l o u n v (l.region f) (l.at f i) link c arrived (λ a h. left n v (l.region f) (l.at f i) link few arrived a (λ is. shared_kept p limit l laid o over (l.region f) a is h)) g)
+                    (subst (AgreesQuad (code l) (u.regs 0)) (sym arrived.link_is) agrees) arrived.pc_is;
+                sound = settles_sound (is_between l) 255 n sound;
+                fixed = λ a h. left n v (l.region f) (l.at f i) link few arrived a (λ is. fixed_kept p limit l laid o over (l.region f) a is h) ∙ ap (λ g. g a) store ∙ related.kept.fixed a h;
+                image = arrived.image ∙ image ∙ related.kept.image;
+              };
+              buffers = again.buffers;
+              current = now_current n v (l.region f) (l.at f i) link arrived;
             };
-            buffers = again.buffers;
-            current = now_current n v (l.region f) (l.at f i) link arrived;
-          };
-          steady = settle.1;
-          same = arrived.regs 1 refl;
-        },
-        loads_by_loader o over.laid (is_between l) q (l.region f) (l.at f i) link m n arrives settle.0 few (λ j lt. ap (λ g. fetch g (mapped_at o.loader j)) store))
+            steady = settle.1;
+            same = arrived.regs 1 refl;
+          },
+          loads_by_loader o over.laid (is_between l) q (l.region f) (l.at f i) link m n arrives settle.0 few (λ j lt. ap (λ g. fetch g (mapped_at o.loader j)) store),
+        )
 
     -- by a function's stub
     stub_is : (g : ℕ) (y : SymInst) → (g ≡ 0 → ⊥) → instruction_at p g 0 ≡ Some y → IsStub o (l.entry g) (l.region g) (l.at g 0) m.store
@@ -392,7 +395,8 @@ module _ (p : Prog) (limit : ℕ) (l : Layout) (laid : IsLaid p limit l) (linkab
         let here : Q s m = (λ sound there. (
           arrives_here l (Related o l first) s m place related,
           loads_here o over.laid (is_between l) (l.region s.f) m m (settles_here (is_between l) 255 m place) (λ j lt. refl)
-              (current_named p limit l laid o over (l.region s.f) m (over.regions s.f s.i high.placed) related.current))) in
+              (current_named p limit l laid o over (l.region s.f) m (over.regions s.f s.i high.placed) related.current),
+        )) in
         both.0 here (step_sound m related.kept.sound) later
 
     pub one_hop : IsHigh p frames limit (step p frames s) → Inside (step p frames s) → Arrival l (Related o l first) (step p frames s) (machine.step m)

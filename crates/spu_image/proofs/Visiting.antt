@@ -207,8 +207,8 @@ module _ (l : Layout) (o : Overlay) (laid : IsLaid o) (slots : l.slots.from ≡ 
     quiet : (r : ℕ) (m n : State) → step m ≡ n → ((k : ℕ) → k < o.loader.buffers → word_in o n k ≡ word_in o m k) → is_load (mapped_at o.loader 0) o.loader.buffers r m ≡ false
     quiet r m n is same =
         no_load (mapped_at o.loader 0) o.loader.buffers r m (λ k lt. kept_word (mapped_at o.loader 0 + 16 * k) r m (
-          let e : mapped_at o.loader 0 + 16 * k ≡ mapped_at o.loader k = omega arith in
-          ap (fetch (step m).store) e ∙ ap (λ (v : State). word_in o v k) is ∙ same k lt ∙ sym (ap (fetch m.store) e)))
+        let e : mapped_at o.loader 0 + 16 * k ≡ mapped_at o.loader k = omega arith in
+        ap (fetch (step m).store) e ∙ ap (λ (v : State). word_in o v k) is ∙ same k lt ∙ sym (ap (fetch m.store) e)))
 
     hop_count : (r : ℕ) (m : State) (e : Option RunEnd) → m.ended ≡ e → is_load (mapped_at o.loader 0) o.loader.buffers r m ≡ false
         → load_count (mapped_at o.loader 0) o.loader.buffers r ((hop (is_between l) m).steps - m.steps) m
