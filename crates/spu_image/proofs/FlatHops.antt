@@ -43,7 +43,7 @@ unfolding machine.step
 machine_step m z g d =
     ap (λ e. machine.unless_ended e m (machine.obeys (decoded (fetch m.store m.pc)) m)) g ∙ ap (λ o. machine.obeys o m) (decodes_decoded (fetch m.store m.pc) z d)
 
-ended_too : (l : Layout) (e : IdealEnd) (d : Option RunEnd) → SameEnd l (Some e) d → (r : RunEnd) × (d ≡ Some r)
+pub ended_too : (l : Layout) (e : IdealEnd) (d : Option RunEnd) → SameEnd l (Some e) d → (r : RunEnd) × (d ≡ Some r)
 ended_too l (ideal.Stop c) d h = (ending.Stop c, h)
 ended_too l (ideal.Halt f i) d h = (ending.Halt (l.at f i), h)
 ended_too l ideal.Starved d h = (ending.Starved, h)

@@ -56,9 +56,13 @@ pub mod OverlayPlans
 pub mod Overlaying
 pub mod Tails
 pub mod OverlayImages
+pub mod Growing
+pub mod HopSteps
+pub mod LoadedHops
 pub mod Carrying
 pub mod LoaderRelations
 pub mod Surroundings
+pub mod OverlayLoads
 pub mod OverlayHops
 pub mod SectionWords
 pub mod StoreParts
@@ -68,3 +72,8 @@ pub mod OverlayPlaces
 pub mod OverlayWords
 pub mod OverlayStarts
 pub mod PlannedHeadlines
+pub mod Tellings
+pub mod Visiting
+pub mod OverlayVisits
+pub mod PlannedLoads
+pub mod TourRegions

@@ -20,7 +20,8 @@ use Rattle.spu_ls.specs.Hops.{settles, hop, Along}
 use Rattle.spu_ls.specs.Sound.{IsSound}
 use Rattle.spu_ls.proofs.Sounding.{step_sound}
 use Rattle.spu_plan.specs.declared.constants.TheConstants.{RETURN_OFFSET}
-use Rattle.spu_loader.specs.Overlays.{Overlay, place_of, IsRegion, Holds, HoldsFile, IsMapped, HasBuffer, IsReady, IsStub, IsLink, Direct, Kept as Stays}
+use Rattle.spu_loader.specs.Code.{mapped_at}
+use Rattle.spu_loader.specs.Overlays.{Overlay, buffer_of, place_of, IsRegion, Holds, HoldsFile, IsMapped, HasBuffer, IsReady, IsStub, IsLink, Direct, Kept as Stays}
 use Rattle.spu_loader.specs.Entries.{IsInside, is_loaded, Arrived, Arrives}
 use Rattle.spu_loader.proofs.Ready.{ready_from}
 use Rattle.spu_loader.proofs.Arriving.{load_entry, return_entry}
@@ -47,7 +48,9 @@ use Rattle.spu_image.proofs.Leaving.{first_word, leads_to, IsWay, Ways}
 use Rattle.spu_image.proofs.Carrying.{Carried, carried_matches, carried_on, carried_goes, carried_sets}
 use Rattle.spu_image.proofs.Surroundings.{shared_kept, fixed_kept, mapped_kept, buffer_kept, holds_kept, stub_kept, region_word}
 use Rattle.spu_image.proofs.FlatHops.{apart, root_word, step_by}
-use Rattle.spu_image.proofs.Settling.{Arrival, arrives_here, each_hop}
+use Rattle.spu_image.proofs.Settling.{Arrival, arrives_here, settles_here, each_hop}
+use Rattle.spu_image.proofs.LoadedHops.{HopLoads, word_in, loads_here, loads_by_loader}
+use Rattle.spu_image.proofs.OverlayLoads.{words_kept, current_named}
 
 settles_sound : (between : ℕ → Bool) (k : ℕ) (m : State) → IsSound m → IsSound (settles between k m)
 unfolding settles
@@ -61,9 +64,10 @@ between_parts from to pc t = (let q = and_parts (nat_le from pc) (nat_lt pc to) 
 between_is : (from to pc : ℕ) → from ≤ pc → pc < to → (nat_le from pc && nat_lt pc to) ≡ true
 between_is from to pc low up = grind (arith, nat_tests)
 
--- what is promised of both machines after a step: once the hop has settled, they are related
-abbrev Arriving : Prog → (ℕ → ℕ) → ℕ → Overlay → Layout → State → Sym → State → Type 0
-Arriving p frames limit o l first t n = IsSound n → IsHigh p frames limit t → Arrival l (Related o l first) t n
+-- what is promised of both machines after a step of the machine from m: once the hop has settled, they are related, and the hop has loaded
+-- the region that it comes to, if it was missed
+abbrev Arriving : Prog → (ℕ → ℕ) → ℕ → Overlay → Layout → State → State → Sym → State → Type 0
+Arriving p frames limit o l first m t n = IsSound n → IsHigh p frames limit t → Arrival l (Related o l first) t n × HopLoads o (is_between l) (l.region t.f) m n
 
 module _ (p : Prog) (limit : ℕ) (l : Layout) (laid : IsLaid p limit l) (linkable : IsLinkable p) (frames : ℕ → ℕ) (o : Overlay) (over : Surrounds p o l)
     (given : Inputs) (first : State) (begun : IsBegunAround p o l limit given first) where
@@ -112,7 +116,7 @@ module _ (p : Prog) (limit : ℕ) (l : Layout) (laid : IsLaid p limit l) (linkab
     matched = related.kept.matched
 
     abbrev Q : Sym → State → Type 0
-    Q = Arriving p frames limit o l first
+    Q = Arriving p frames limit o l first m
 
     abbrev at_next : ℕ
     at_next = code_mask (m.pc + 4)
@@ -121,40 +125,46 @@ module _ (p : Prog) (limit : ℕ) (l : Layout) (laid : IsLaid p limit l) (linkab
 
     stay : (t : Sym) (n : State) → Stepped l s.f m t n → Q t n
     stay t n h sound there =
-        let place : is_between l n.pc ≡ false = ap (is_between l) h.matched.place ∙ not_between t.f t.i there.placed.0 there.placed.1 in
-        arrives_here l (Related o l first) t n place (record {
-          kept = record { matched = h.matched; sound = sound; fixed = λ a f. h.kept a (apart p limit l laid a f) ∙ related.kept.fixed a f; image = h.image ∙ related.kept.image };
-          buffers = λ k lt. subst (HasBuffer o k n.store) (sym h.image) (buffer_kept p limit l laid o over m.store n.store m.image k lt h.kept (related.buffers k lt));
-          current = subst (λ f. (l.region f ≡ 0) ⊎ ((1 ≤ l.region f) × IsMapped o (l.region f) n.store n.image)) (sym h.function)
-              (elim related.current [
-                | inl e ↦ inl e
-                | inr e ↦ inr (
-                  e.0,
-                  subst (IsMapped o (l.region s.f) n.store) (sym h.image)
-                      (mapped_kept p limit l laid o over m.store n.store m.image (l.region s.f) (e.0, over.regions s.f s.i high.placed) h.kept e.1),
-                )
-              ]);
-        })
+        let place : is_between l n.pc ≡ false = ap (is_between l) h.matched.place ∙ not_between t.f t.i there.placed.0 there.placed.1 in (
+          arrives_here l (Related o l first) t n place (record {
+            kept = record { matched = h.matched; sound = sound; fixed = λ a f. h.kept a (apart p limit l laid a f) ∙ related.kept.fixed a f; image = h.image ∙ related.kept.image };
+            buffers = λ k lt. subst (HasBuffer o k n.store) (sym h.image) (buffer_kept p limit l laid o over m.store n.store m.image k lt h.kept (related.buffers k lt));
+            current = subst (λ f. (l.region f ≡ 0) ⊎ ((1 ≤ l.region f) × IsMapped o (l.region f) n.store n.image)) (sym h.function)
+                (elim related.current [
+                  | inl e ↦ inl e
+                  | inr e ↦ inr (
+                    e.0,
+                    subst (IsMapped o (l.region s.f) n.store) (sym h.image)
+                        (mapped_kept p limit l laid o over m.store n.store m.image (l.region s.f) (e.0, over.regions s.f s.i high.placed) h.kept e.1),
+                  )
+                ]);
+          }),
+          loads_here o over.laid (is_between l) (l.region t.f) m n (settles_here (is_between l) 255 n place) (words_kept p limit l laid o over m n h.kept)
+              (subst (λ f. (l.region f ≡ 0) ⊎ (word_in o m (buffer_of o (l.region f)) ≡ l.region f)) (sym h.function) (current_named p limit l laid o over (l.region s.f) m (over.regions s.f s.i high.placed) related.current)),
+        )
 
     -- ---- to a place at once
 
     direct : (u : Sym) (n : State) (f i k : ℕ) → Carried l u n → AgreesQuad (code l) (u.regs 0) (n.regs 0) → n.pc ≡ l.at f i → n.store ≡ m.store → n.image ≡ m.image
         → (l.region f ≡ 0) ⊎ ((1 ≤ l.region f) × IsMapped o (l.region f) m.store m.image) → Q (record (forgets u) { f = f; i = i; steps = k }) n
     direct u n f i k c link place store image mapped sound there =
-        let here : is_between l n.pc ≡ false = ap (is_between l) place ∙ not_between f i there.placed.0 there.placed.1 in
-        arrives_here l (Related o l first) (record (forgets u) { f = f; i = i; steps = k }) n here (record {
-          kept = record {
-            matched = carried_matches l u n f i k c link place;
-            sound = sound;
-            fixed = λ a h. ap (λ g. g a) store ∙ related.kept.fixed a h;
-            image = image ∙ related.kept.image;
-          };
-          buffers = λ j lt. subst (HasBuffer o j n.store) (sym image) (subst (λ g. HasBuffer o j g m.image) (sym store) (related.buffers j lt));
-          current = elim mapped [
-            | inl e ↦ inl e
-            | inr e ↦ inr (e.0, subst (IsMapped o (l.region f) n.store) (sym image) (subst (λ g. IsMapped o (l.region f) g m.image) (sym store) e.1))
-          ];
-        })
+        let here : is_between l n.pc ≡ false = ap (is_between l) place ∙ not_between f i there.placed.0 there.placed.1 in (
+          arrives_here l (Related o l first) (record (forgets u) { f = f; i = i; steps = k }) n here (record {
+            kept = record {
+              matched = carried_matches l u n f i k c link place;
+              sound = sound;
+              fixed = λ a h. ap (λ g. g a) store ∙ related.kept.fixed a h;
+              image = image ∙ related.kept.image;
+            };
+            buffers = λ j lt. subst (HasBuffer o j n.store) (sym image) (subst (λ g. HasBuffer o j g m.image) (sym store) (related.buffers j lt));
+            current = elim mapped [
+              | inl e ↦ inl e
+              | inr e ↦ inr (e.0, subst (IsMapped o (l.region f) n.store) (sym image) (subst (λ g. IsMapped o (l.region f) g m.image) (sym store) e.1))
+            ];
+          }),
+          loads_here o over.laid (is_between l) (l.region f) m n (settles_here (is_between l) 255 n here) (λ j lt. ap (λ g. fetch g (mapped_at o.loader j)) store)
+              (current_named p limit l laid o over (l.region f) m (over.regions f i there.placed) mapped),
+        )
 
     -- ---- by the loader
 
@@ -187,23 +197,25 @@ module _ (p : Prog) (limit : ℕ) (l : Layout) (laid : IsLaid p limit l) (linkab
         let settle = settled o q (l.region f) (l.at f i) link n (is_between l) arrives (λ pc h. passage_between q pc low up h) (not_between f i y e) in
         let v : State = settles (is_between l) 255 n in
         let arrived : Arrived o (l.region f) (l.at f i) link n v = subst (Arrived o (l.region f) (l.at f i) link n) (sym settle.0) arrives.arrived in
-        let again = ready_again o (l.region f) (l.at f i) link n v over.laid ready_n few arrived in
-        record {
-          related = record {
-            kept = record {
-              matched = carried_matches l u v f i k
-                  (carried_on l o u n v (l.region f) (l.at f i) link c arrived (λ a h. left n v (l.region f) (l.at f i) link few arrived a (λ is. shared_kept p limit l laid o over (l.region f) a is h)) g)
-                  (subst (AgreesQuad (code l) (u.regs 0)) (sym arrived.link_is) agrees) arrived.pc_is;
-              sound = settles_sound (is_between l) 255 n sound;
-              fixed = λ a h. left n v (l.region f) (l.at f i) link few arrived a (λ is. fixed_kept p limit l laid o over (l.region f) a is h) ∙ ap (λ g. g a) store ∙ related.kept.fixed a h;
-              image = arrived.image ∙ image ∙ related.kept.image;
+        let again = ready_again o (l.region f) (l.at f i) link n v over.laid ready_n few arrived in (
+          record {
+            related = record {
+              kept = record {
+                matched = carried_matches l u v f i k
+                    (carried_on l o u n v (l.region f) (l.at f i) link c arrived (λ a h. left n v (l.region f) (l.at f i) link few arrived a (λ is. shared_kept p limit l laid o over (l.region f) a is h)) g)
+                    (subst (AgreesQuad (code l) (u.regs 0)) (sym arrived.link_is) agrees) arrived.pc_is;
+                sound = settles_sound (is_between l) 255 n sound;
+                fixed = λ a h. left n v (l.region f) (l.at f i) link few arrived a (λ is. fixed_kept p limit l laid o over (l.region f) a is h) ∙ ap (λ g. g a) store ∙ related.kept.fixed a h;
+                image = arrived.image ∙ image ∙ related.kept.image;
+              };
+              buffers = again.buffers;
+              current = now_current n v (l.region f) (l.at f i) link arrived;
             };
-            buffers = again.buffers;
-            current = now_current n v (l.region f) (l.at f i) link arrived;
-          };
-          steady = settle.1;
-          same = arrived.regs 1 refl;
-        }
+            steady = settle.1;
+            same = arrived.regs 1 refl;
+          },
+          loads_by_loader o over.laid (is_between l) q (l.region f) (l.at f i) link m n arrives settle.0 few (λ j lt. ap (λ g. fetch g (mapped_at o.loader j)) store),
+        )
 
     -- by a function's stub
     stub_is : (g : ℕ) (y : SymInst) → (g ≡ 0 → ⊥) → instruction_at p g 0 ≡ Some y → IsStub o (l.entry g) (l.region g) (l.at g 0) m.store
@@ -375,11 +387,23 @@ module _ (p : Prog) (limit : ℕ) (l : Layout) (laid : IsLaid p limit l) (linkab
     ways : s.ended ≡ None → Ways p l s m Q
     ways none = record { stay = stay; place = λ i a is ins. stay _ _ (goes_hop p limit l laid frames s m matched (bounded m related.kept.sound) high high.placed.0 high.placed.1 i a is ins); return = back none; jump = jump none; call = call none }
 
-    pub one_hop : IsHigh p frames limit (step p frames s) → Inside (step p frames s) → Arrival l (Related o l first) (step p frames s) (machine.step m)
-    one_hop later inside =
+    both_hop : IsHigh p frames limit (step p frames s) → Inside (step p frames s)
+        → Arrival l (Related o l first) (step p frames s) (machine.step m) × HopLoads o (is_between l) (l.region (step p frames s).f) m (machine.step m)
+    both_hop later inside =
         let both = step_by p limit l laid linkable frames s m matched (bounded m related.kept.sound) high Q s.ended refl matched.ended (meant_by s m related) ways inside in
-        let here : Q s m = (λ sound there. arrives_here l (Related o l first) s m (ap (is_between l) matched.place ∙ not_between s.f s.i high.placed.0 high.placed.1) related) in
+        let place : is_between l m.pc ≡ false = ap (is_between l) matched.place ∙ not_between s.f s.i high.placed.0 high.placed.1 in
+        let here : Q s m = (λ sound there. (
+          arrives_here l (Related o l first) s m place related,
+          loads_here o over.laid (is_between l) (l.region s.f) m m (settles_here (is_between l) 255 m place) (λ j lt. refl)
+              (current_named p limit l laid o over (l.region s.f) m (over.regions s.f s.i high.placed) related.current),
+        )) in
         both.0 here (step_sound m related.kept.sound) later
+
+    pub one_hop : IsHigh p frames limit (step p frames s) → Inside (step p frames s) → Arrival l (Related o l first) (step p frames s) (machine.step m)
+    one_hop later inside = (both_hop later inside).0
+
+    pub hop_loads : IsHigh p frames limit (step p frames s) → Inside (step p frames s) → HopLoads o (is_between l) (l.region (step p frames s).f) m (machine.step m)
+    hop_loads later inside = (both_hop later inside).1
 
   pub hop_keeps : (s : Sym) (m : State) → Related o l first s m → IsHigh p frames limit s → IsHigh p frames limit (step p frames s) → Inside (step p frames s)
       → Related o l first (step p frames s) (hop (is_between l) m) × Along (λ n. n.regs 1 ≡ (machine.step m).regs 1) (is_between l) 255 (machine.step m)

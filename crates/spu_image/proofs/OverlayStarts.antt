@@ -313,14 +313,17 @@ module _ (p : Prog) (plan : Plan) (limit : ℕ) (well : IsWellFormed p) (planned
     holds = record { code = loader_there; returns = returns_there; image_is = image_there; step_is = steps_there; table = table_there }
 
     -- in no buffer is a region mapped
-    pub unmapped : (k : ℕ) → k < plan.buffers → HasBuffer o k m im
-    unmapped k lt = inl (
+    pub empty : (k : ℕ) → k < plan.buffers → load m (mapped_at o.loader k) ≡ quad_of 0 0 0 0
+    empty k lt = (
         load_is m (mapped_at o.loader k) 0 0 0 0 (λ j few. (
         let e : mapped_at o.loader k + j ≡ slots_start p plan + (16 * k + j) = omega arith in
         let n = slots_long in
         ap m e
         ∙ (text_there (16 * (length p.functions - 1) + 272) (slots_start p plan) slots slots_stand (omega arith) (inl (omega (arith, n))) (16 * k + j) (omega (arith, n, lt, few))
         ∙ (zero_at (16 * plan.buffers) (16 * k + j) ∙ sym (zero_at 16 j))))))
+
+    pub unmapped : (k : ℕ) → k < plan.buffers → HasBuffer o k m im
+    unmapped k lt = inl (empty k lt)
 
     -- ---- what a run needs
 

@@ -1,7 +1,7 @@
 -- The headline of an overlay executable of a judged program.
-use Rattle.std.proofs.Common.{◌≡◌, ℕ, zero, suc, ◌+◌, ◌-◌, ◌%◌, ◌^◌, ◌≤◌, ⊎_elim, true, false, List, length, map, Option, Some, refl, sym, ap, ◌∙◌, subst, arith}
+use Rattle.std.proofs.Common.{◌≡◌, ℕ, zero, suc, ◌+◌, ◌-◌, ◌%◌, ◌^◌, ◌<◌, ◌≤◌, ⊎_elim, true, false, List, length, map, Option, Some, refl, sym, ap, ◌∙◌, subst, arith}
 use Rattle.std.specs.Prelude.{if◌then◌else◌}
-use Rattle.spu_word.specs.Bytes.{be_number}
+use Rattle.spu_word.specs.Bytes.{be_number, quad_of}
 use Rattle.spu_word.specs.declared.limits.TheConstants.{MAX_FILE_SIZE}
 use Rattle.spu_word.specs.declared.load.Inputs.{Inputs}
 use Rattle.spu_elf.specs.Spelling.{spell_exec}
@@ -15,13 +15,14 @@ use Rattle.spu_lift.specs.Places.{instruction_at}
 use Rattle.spu_lift.specs.WellFormed.{IsWellFormed}
 use Rattle.spu_plan.specs.declared.plan.Plan.{Plan}
 use Rattle.spu_plan.specs.Choices.{IsFlatPlan, IsOverlayPlan}
-use Rattle.spu_ls.specs.Stores.{Store}
+use Rattle.spu_ls.specs.Stores.{Store, load}
 use Rattle.spu_ls.specs.Machine.{State}
 use Rattle.spu_ls.specs.Machine as machine
 use Rattle.spu_ls.specs.Entries.{entries_of, image_place}
 use Rattle.spu_ls.specs.Start.{image_of, loaded, started, start, with_entries, with_image}
 use Rattle.spu_ls.specs.Sound.{IsSound}
 use Rattle.spu_ls.proofs.Beginning.{start_sound}
+use Rattle.spu_loader.specs.Code.{mapped_at}
 use Rattle.spu_loader.specs.Overlays.{Overlay, HasBuffer, Holds, HoldsFile, IsStub, place_of}
 use Rattle.spu_ideal.specs.Machine.{entry_of, IsInside}
 use Rattle.spu_ideal.specs.States.{IsJudged}
@@ -37,7 +38,7 @@ use Rattle.spu_image.proofs.FlatImages.{flat_headline}
 use Rattle.spu_image.proofs.LoaderRelations.{IsBegunAround, Surrounds}
 use Rattle.spu_image.proofs.OverlayHops.{overlay_hops}
 use Rattle.spu_image.proofs.OverlayPlaces.{regions_below, start_of, surrounds}
-use Rattle.spu_image.proofs.OverlayStarts.{all_stored, holds, image_at, o, stub_is, unmapped}
+use Rattle.spu_image.proofs.OverlayStarts.{all_stored, empty, holds, image_at, o, stub_is, unmapped}
 use Rattle.spu_image.proofs.OverlayStarts as starts
 use Rattle.spu_image.proofs.OverlaySymbols.{overlay_entries, overlay_image}
 use Rattle.spu_image.proofs.OverlayWords.{region_room, word_in_file}
@@ -58,10 +59,10 @@ module _ (p : Prog) (frames : ℕ → ℕ) (need : ℕ) (judged : IsJudged p fra
   abbrev l : Layout
   l = overlay_layout p plan limit
 
-  abbrev around : Overlay
+  abbrev pub around : Overlay
   around = o p plan limit well planned flag told x image
 
-  laid : IsLaid p limit l
+  pub laid : IsLaid p limit l
   laid = subst (IsLaid p limit) (overlay_is p plan limit flag) (planned_is_laid p plan limit well planned)
 
   -- ---- the file
@@ -73,7 +74,7 @@ module _ (p : Prog) (frames : ℕ → ℕ) (need : ℕ) (judged : IsJudged p fra
   offsets : (r : ℕ) → 1 ≤ r → r ≤ plan.regions → (segment_offset x r % 16 ≡ 0) × (segment_offset x r + region_size p plan r ≤ 2 ^ 32)
   offsets r low up = (segment_at_quads x r, (let h = room r low up in let s = small in omega (arith, h, s)))
 
-  over : Surrounds p around l
+  pub over : Surrounds p around l
   over = surrounds p plan limit well planned flag image.shift image.size (segment_offset x) offsets
 
   words : (f i : ℕ) (y : SymInst) → instruction_at p f i ≡ Some y → 1 ≤ l.region f → IsWord l f i y (be_number file (segment_offset x (l.region f) + (l.at f i - place_of around (l.region f))))
@@ -96,7 +97,7 @@ module _ (p : Prog) (frames : ℕ → ℕ) (need : ℕ) (judged : IsJudged p fra
     abbrev m : Store
     m = starts.m p plan limit well planned flag told x image laid inputs im
 
-    abbrev begin : State
+    abbrev pub begin : State
     begin = started m (l.at 0 0) im inputs.areas inputs.mail
 
     entries : entries_of x.symbols ≡ map entry_of p.ears
@@ -105,7 +106,7 @@ module _ (p : Prog) (frames : ℕ → ℕ) (need : ℕ) (judged : IsJudged p fra
     named : image_place x.symbols ≡ Some (image_at p plan limit well planned flag told x image laid inputs im)
     named = ap image_place image.symbols ∙ overlay_image p l (image_at p plan limit well planned flag told x image laid inputs im) told well
 
-    start_is : start x file inputs ≡ begin
+    pub start_is : start x file inputs ≡ begin
     unfolding start
     start_is =
         ap (λ (at : Option ℕ). started (with_image at im (with_entries (entries_of x.symbols) inputs.areas (loaded x.segments))) x.entry im inputs.areas inputs.mail) named
@@ -116,7 +117,7 @@ module _ (p : Prog) (frames : ℕ → ℕ) (need : ℕ) (judged : IsJudged p fra
     sound : IsSound begin
     sound = subst IsSound start_is (start_sound x file inputs can.bytes can.fits)
 
-    abbrev first : State
+    abbrev pub first : State
     first = machine.step begin
 
     store_is : first.store ≡ m
@@ -136,7 +137,7 @@ module _ (p : Prog) (frames : ℕ → ℕ) (need : ℕ) (judged : IsJudged p fra
       regions = λ r is. room r is.0 is.1;
     }
 
-    begun : IsBegunAround p around l limit inputs first
+    pub begun : IsBegunAround p around l limit inputs first
     begun = record {
       begun = begins p limit l laid frames inputs im m well.start well.data_aligned refl (all_stored p plan limit well planned flag told x image laid inputs im) sound;
       holds = here (Holds around) (holds p plan limit well planned flag told x image laid inputs im);
@@ -146,10 +147,16 @@ module _ (p : Prog) (frames : ℕ → ℕ) (need : ℕ) (judged : IsJudged p fra
       words = λ f i y there some. here (λ s (i_of : Stretch). IsWord l f i y (be_number i_of.bytes (around.offset (l.region f) + (l.at f i - place_of around (l.region f))))) (words f i y there some);
     }
 
-    each : (n : ℕ) → IsInside p frames limit inputs n → Hop p l frames limit need inputs begin n
+    -- the first step leaves the store, in which nothing is mapped
+    pub store_stays : (a : ℕ) → first.store a ≡ begin.store a
+    store_stays = same_store p limit l laid frames inputs im m well.start well.data_aligned refl (all_stored p plan limit well planned flag told x image laid inputs im) sound
+
+    pub nothing_mapped : (k : ℕ) → k < plan.buffers → load first.store (mapped_at around.loader k) ≡ quad_of 0 0 0 0
+    nothing_mapped k lt = here (λ s i. load s (mapped_at around.loader k) ≡ quad_of 0 0 0 0) (empty p plan limit well planned flag told x image laid inputs im k lt)
+
+    pub each : (n : ℕ) → IsInside p frames limit inputs n → Hop p l frames limit need inputs begin n
     each n inside =
-        overlay_hops p limit l laid (linkable_of p well) frames around over inputs first begun need (promised p frames need judged limit least inputs) begin refl
-        (same_store p limit l laid frames inputs im m well.start well.data_aligned refl (all_stored p plan limit well planned flag told x image laid inputs im) sound) n inside
+        overlay_hops p limit l laid (linkable_of p well) frames around over inputs first begun need (promised p frames need judged limit least inputs) begin refl store_stays n inside
 
     pub each_start : (n : ℕ) → IsInside p frames limit inputs n → Hop p l frames limit need inputs (start x file inputs) n
     each_start n inside = subst (λ s. Hop p l frames limit need inputs s n) (sym start_is) (each n inside)

@@ -74,7 +74,7 @@ stays_outside p frames s (Some e) h o = subst (λ d. IsOutside (unless_ended d s
 module _ (p : Prog) (l : Layout) (frames : ℕ → ℕ) (limit need : ℕ) (given : Inputs) (first : State) (promised : IsPromised p frames limit need given)
     (R : Sym → State → Type 0) (base : R (start p limit given) first)
     (one : (s : Sym) (m : State) → R s m → IsHigh p frames limit s → IsHigh p frames limit (step p frames s) → Inside (step p frames s) → Arrival l R (step p frames s) (machine.step m)) where
-  before : (n : ℕ) → IsInside p frames limit given (suc n) → IsInside p frames limit given n
+  pub before : (n : ℕ) → IsInside p frames limit given (suc n) → IsInside p frames limit given n
   unfolding run
   before n inside o = inside (stays_outside p frames (run p frames limit given n) (run p frames limit given n).ended refl o)
 

@@ -68,7 +68,7 @@ module _ (p : Prog) (limit : ℕ) (l : Layout) (laid : IsLaid p limit l) (o : Ov
   pub buffer_in : (r : ℕ) → buffer_of o r < o.loader.buffers
   buffer_in r = let b = below_buffers o.loader r over.laid.loader in b.0
 
-  shared_slot : (a : ℕ) → IsShared l a → Lies a l.slots → ⊥
+  pub shared_slot : (a : ℕ) → IsShared l a → Lies a l.slots → ⊥
   shared_slot a h s =
       let d = laid.apart in
       let e = over.ends in

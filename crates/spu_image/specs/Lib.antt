@@ -3,6 +3,8 @@ pub mod Words
 pub mod Matching
 pub mod Images
 pub mod Headline
+pub mod Endings
+pub mod Visits
 pub mod Filling
 pub mod Overlays
 pub mod OverlayFilling
@@ -10,3 +12,4 @@ pub mod Planning
 pub mod Linking
 pub mod JudgedLinking
 pub mod Samples
+pub mod RegionSamples

@@ -34,7 +34,10 @@ ghost use Rattle.spu_image.specs.declared.outcome.LinkFault.{LinkFault};
 ghost use Rattle.spu_image.specs.declared.outcome.LinkFault.TheVariants as faults;
 ghost use Rattle.spu_image.specs.declared.outcome.LinkOptions.{LinkOptions};
 ghost use Rattle.spu_image.specs.Headline.{CanStart, Headline};
+ghost use Rattle.spu_image.specs.Endings.{TellsRuns};
+ghost use Rattle.spu_image.specs.Visits.{LoadsRuns, loads_in};
 ghost use Rattle.spu_image.specs.Samples.{tour_after, tour_layout};
+ghost use Rattle.spu_image.specs.RegionSamples.{region_after, region_layout, region_plan};
 
 /// Well-formed objects that are judged or linked have none of the faults that refuse them: a fault is told exactly where one
 /// holds.
@@ -67,6 +70,21 @@ pub fn flat_hops_are_steps()
     ensures { (l : Layout) → IsFlat l → (m : State) → hop (is_between l) m ≡ step m }
 {}
 
+/// What the promise of a link says of hops tells of the machine's run of the image: where the symbolic run ends inside after k
+/// steps, the machine's has ended alike after at most 1 + 256 k, and as long as it stays inside, what the machine sends begins
+/// with what the symbolic run has sent.
+pub fn runs_tell_how_machines_end()
+    ensures { (p : Prog) (l : Layout) (frames : ℕ → ℕ) (limit need : ℕ) (x : Exec) (file : List ℕ) → Headline p l frames limit need x file → TellsRuns p l frames limit x file }
+{}
+
+/// In an executable of a judged program by a plan with overlays, each hop loads a region exactly where the symbolic step is a visit
+/// of it that misses, and once; word 0 of each mapped quadword is the region of the last visit to its buffer; and the machine's run
+/// loads each region as often as it is missed.
+pub fn overlay_images_load_as_visited()
+    ensures { (p : Prog) (frames : ℕ → ℕ) (need : ℕ) → IsJudged p frames need → (plan : Plan) (limit : ℕ) → need ≤ limit → IsPlanned p plan limit → plan.overlay ≡ true → (told : ℕ → Option ℕ) (x : Exec) (file : List ℕ)
+        → IsOverlayExec p plan (layout_of p plan limit) limit told x → file ≡ spell_exec x → length file ≤ MAX_FILE_SIZE → LoadsRuns p (layout_of p plan limit) plan.buffers frames limit x file }
+{}
+
 /// The promise at a program with a frame, a call, a pointer call and data with a label, up to its stop. After five hops
 /// the pointer call has come to the second function, whose address stands in the data, with the link of the place behind
 /// the call and the frame of 32 bytes below the top, and fetches that function's first instruction; after 23 the machine has
@@ -82,4 +100,17 @@ pub fn tour_runs_in_its_image()
     ensures stays { (told : ℕ → Option ℕ) (x : Exec) (file : List ℕ) → IsFlatExec tours tour_layout 16384 told x → CanStart x file nothing → 262080 ≤ word_of ((step (tour_after x file 4)).regs stack_pointer) 0 }
     ensures keeps { (told : ℕ → Option ℕ) (x : Exec) (file : List ℕ) → IsFlatExec tours tour_layout 16384 told x → CanStart x file nothing → (tour_after x file 23).store 240 ≡ (start x file nothing).store 240 }
     ensures apart { (told : ℕ → Option ℕ) (x : Exec) (file : List ℕ) → IsFlatExec tours tour_layout 16384 told x → CanStart x file nothing → AreDisjoint 128 (areas tour_layout) 262144 }
+{}
+
+/// The promise at the same program in a region, up to its stop. After five hops the pointer call has come to the second
+/// function in the buffer, by its stub, whose address stands in the data, with the link of the return entry; after 23 the
+/// machine has sent what the symbolic run has, and stopped. The region was loaded once, and is mapped.
+pub fn tour_runs_in_its_region()
+    ensures enters { (told : ℕ → Option ℕ) (x : Exec) (file : List ℕ) → IsOverlayExec tours region_plan region_layout 16384 told x → file ≡ spell_exec x → length file ≤ MAX_FILE_SIZE → CanStart x file nothing → (region_after x file 5).pc ≡ 704 }
+    ensures labels { (told : ℕ → Option ℕ) (x : Exec) (file : List ℕ) → IsOverlayExec tours region_plan region_layout 16384 told x → file ≡ spell_exec x → length file ≤ MAX_FILE_SIZE → CanStart x file nothing → (region_after x file 5).store 131 ≡ 192 }
+    ensures links { (told : ℕ → Option ℕ) (x : Exec) (file : List ℕ) → IsOverlayExec tours region_plan region_layout 16384 told x → file ≡ spell_exec x → length file ≤ MAX_FILE_SIZE → CanStart x file nothing → word_of ((region_after x file 5).regs link_register) 0 ≡ 460 }
+    ensures sends { (told : ℕ → Option ℕ) (x : Exec) (file : List ℕ) → IsOverlayExec tours region_plan region_layout 16384 told x → file ≡ spell_exec x → length file ≤ MAX_FILE_SIZE → CanStart x file nothing → (region_after x file 23).output ≡ 14 ∷ 1 ∷ [] }
+    ensures stops { (told : ℕ → Option ℕ) (x : Exec) (file : List ℕ) → IsOverlayExec tours region_plan region_layout 16384 told x → file ≡ spell_exec x → length file ≤ MAX_FILE_SIZE → CanStart x file nothing → (region_after x file 23).ended ≡ Some (ending.Stop 0x2000) }
+    ensures loads { (told : ℕ → Option ℕ) (x : Exec) (file : List ℕ) → IsOverlayExec tours region_plan region_layout 16384 told x → file ≡ spell_exec x → length file ≤ MAX_FILE_SIZE → CanStart x file nothing → loads_in region_layout 1 1 (region_after x file 23).steps (start x file nothing) ≡ 1 }
+    ensures maps { (told : ℕ → Option ℕ) (x : Exec) (file : List ℕ) → IsOverlayExec tours region_plan region_layout 16384 told x → file ≡ spell_exec x → length file ≤ MAX_FILE_SIZE → CanStart x file nothing → fetch (region_after x file 23).store 480 ≡ 1 }
 {}
