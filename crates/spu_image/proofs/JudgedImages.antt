@@ -19,13 +19,16 @@ use Rattle.spu_layout.specs.Placing.{layout_of}
 use Rattle.spu_layout.specs.Planned.{IsPlanned}
 use Rattle.spu_layout.specs.Views.{function_count, layout_in}
 use Rattle.spu_image.specs.Filling.{IsLaidOutBy, IsSmall, told_in}
+use Rattle.spu_image.specs.Headline.{Headline}
 use Rattle.spu_image.specs.Planning.{plan_input}
 use Rattle.spu_image.specs.JudgedLinking.{IsExec, IsFileTooLarge, IsImage, told_of}
 use Rattle.spu_image.specs.declared.outcome.LinkOptions.{LinkOptions}
 use Rattle.spu_image.proofs.Execs.{exec_small, exec_valid, told_alike}
 use Rattle.spu_image.proofs.NeedBounds.{told_small}
 use Rattle.spu_image.proofs.PlannedHeadlines.{made_headline}
+use Rattle.spu_image.proofs.PlannedLoads.{planned_loads}
 use Rattle.spu_image.proofs.ProgramPlans.{planned}
+use Rattle.spu_image.proofs.Tellings.{tells}
 
 -- ---- needs that are told
 
@@ -69,6 +72,10 @@ module _ (j : Judged) (o : LinkOptions) (judged : IsJudgement j.prog o.limit j) 
       pub too_large : (size : ℕ) → size ≡ length (spell_exec x) → MAX_FILE_SIZE < size → IsFileTooLarge p o needs size
       too_large size e over = record { plan = plan; planned = is_plan; exec = x; image = image; is = e; over = over }
 
+      promised : (file : List ℕ) → file ≡ spell_exec x → length (spell_exec x) ≤ MAX_FILE_SIZE → Headline p (layout_of p plan o.limit) (frame_at j.depths) o.limit judged.need x file
+      promised file e short =
+          made_headline p (frame_at j.depths) judged.need judged.judged plan o.limit judged.least planned_so needs x file image.flat image.overlays e (subst (λ (n : ℕ). n ≤ MAX_FILE_SIZE) (ap length (sym e)) short)
+
       pub linked : (file : List ℕ) → file ≡ spell_exec x → length (spell_exec x) ≤ MAX_FILE_SIZE → IsImage o (record { exec = x; file = file; prog = p; depths = j.depths; needs = j.needs; plan = plan; layout = layout })
       linked file e short = record {
         plan = is_plan;
@@ -79,5 +86,7 @@ module _ (j : Judged) (o : LinkOptions) (judged : IsJudgement j.prog o.limit j) 
         file = e;
         need = judged.need;
         entry = judged.entry;
-        headline = made_headline p (frame_at j.depths) judged.need judged.judged plan o.limit judged.least planned_so needs x file image.flat image.overlays e (subst (λ (n : ℕ). n ≤ MAX_FILE_SIZE) (ap length (sym e)) short);
+        headline = promised file e short;
+        tells = tells p (layout_of p plan o.limit) (frame_at j.depths) o.limit judged.need x file (promised file e short);
+        loads = λ over. planned_loads p (frame_at j.depths) judged.need judged.judged plan o.limit judged.least planned_so over needs x file (image.overlays over) e (subst (λ (n : ℕ). n ≤ MAX_FILE_SIZE) (ap length (sym e)) short);
       }

@@ -16,6 +16,8 @@ use Rattle.spu_layout.specs.Views.{function_count, layout_in}
 use Rattle.spu_image.specs.Images.{IsFlatExec, untold}
 use Rattle.spu_image.specs.Overlays.{IsOverlayExec}
 use Rattle.spu_image.specs.Headline.{Headline}
+use Rattle.spu_image.specs.Endings.{TellsRuns}
+use Rattle.spu_image.specs.Visits.{LoadsRuns}
 use Rattle.spu_image.specs.Planning.{plan_input}
 use Rattle.spu_image.specs.declared.outcome.Linked.{Linked}
 use Rattle.spu_image.specs.declared.outcome.LinkFault.{LinkFault}
@@ -48,6 +50,10 @@ pub record IsImage (o : LinkOptions) (l : Linked) : Type 0 where
   pub need : ℕ
   pub entry : need_of l.needs l.prog.entry ≡ Some need
   pub headline : Headline l.prog (layout_of l.prog l.plan o.limit) (frame_at l.depths) o.limit need l.exec l.file
+  -- how the symbolic run ends and what it sends tells the machine's run
+  pub tells : TellsRuns l.prog (layout_of l.prog l.plan o.limit) (frame_at l.depths) o.limit l.exec l.file
+  -- with overlays, each region is loaded as often as it is missed
+  pub loads : l.plan.overlay ≡ true → LoadsRuns l.prog (layout_of l.prog l.plan o.limit) l.plan.buffers (frame_at l.depths) o.limit l.exec l.file
 
 -- L20: no image that the mode permits ends below the stack
 abbrev pub IsPlanTooLarge : Prog → LinkOptions → ℕ → ℕ → Type 0
