@@ -24,7 +24,7 @@ each P [] h k d lt = absurd (omega arith)
 each P (x ∷ xs) h zero d lt = h.0
 each P (x ∷ xs) h (suc k) d lt = each P xs h.1 k d (omega arith)
 
-contained : (P : ℕ → Type 0) (xs : List ℕ) → AllByRecursion P xs → (x : ℕ) → Contains xs x → P x
+pub contained : (P : ℕ → Type 0) (xs : List ℕ) → AllByRecursion P xs → (x : ℕ) → Contains xs x → P x
 contained P xs h x c = subst P c.2 (each P xs h c.0 x c.1)
 
 abbrev IsSmall : ℕ → Type 0
@@ -33,7 +33,7 @@ IsSmall n = (1024 ≤ n) × (n ≤ MAX_BUFFER_SIZE)
 abbrev IsFew : ℕ → Type 0
 IsFew n = n ≤ 8
 
-sizes_are : AllByRecursion IsBufferSize BUFFER_SIZES
+pub sizes_are : AllByRecursion IsBufferSize BUFFER_SIZES
 sizes_are = (
   (16, (lit≤ tt, lit≤ tt), refl),
   (
@@ -51,7 +51,7 @@ sizes_are = (
 sizes_small : AllByRecursion IsSmall BUFFER_SIZES
 sizes_small = ((lit≤ tt, lit≤ tt), ((lit≤ tt, lit≤ tt), ((lit≤ tt, lit≤ tt), ((lit≤ tt, lit≤ tt), ((lit≤ tt, lit≤ tt), ((lit≤ tt, lit≤ tt), ((lit≤ tt, lit≤ tt), tt)))))))
 
-counts_are : AllByRecursion IsBufferCount BUFFER_COUNTS
+pub counts_are : AllByRecursion IsBufferCount BUFFER_COUNTS
 counts_are = (inl refl, (inr (inl refl), (inr (inr (inl refl)), (inr (inr (inr refl)), tt))))
 
 counts_few : AllByRecursion IsFew BUFFER_COUNTS

@@ -48,14 +48,14 @@ tail_added p plan l offset shift size loader here old stubs adds words are lead 
 
 -- ---- how long it is
 
-loader_long : (loader : Loader) → length (loader_code loader) ≡ 66
+pub loader_long : (loader : Loader) → length (loader_code loader) ≡ 66
 loader_long loader = refl
 
-stubs_long : (base : ℕ) (l : Layout) (f : ℕ) (gs : List Function) → length (stub_codes base l f gs) ≡ 4 * length gs
+pub stubs_long : (base : ℕ) (l : Layout) (f : ℕ) (gs : List Function) → length (stub_codes base l f gs) ≡ 4 * length gs
 stubs_long base l f [] = refl
 stubs_long base l f (g ∷ gs) = (let rest = stubs_long base l (suc f) gs in omega (arith, rest))
 
-words_long : (code : List Inst) (words : List ℕ) → AreWordsOf code words → length words ≡ length code
+pub words_long : (code : List Inst) (words : List ℕ) → AreWordsOf code words → length words ≡ length code
 words_long code words are = sym (length-map words decoded) ∙ (ap (λ (os : List (Option Inst)). length os) are ∙ length-map code Some)
 
 entries_long : (entry : ℕ → List ℕ) → ((r : ℕ) → length (entry r) ≡ 16) → (a n : ℕ) → length (flat_map entry (range_with_len a n)) ≡ 16 * n
@@ -83,7 +83,7 @@ module _ (p : Prog) (plan : Plan) (few : plan.regions ≤ length p.code) (l : La
       omega (arith, few, all, both, none, these, others)
 
   -- of so many functions behind the first
-  tail_long : (passage : List ℕ) (functions : ℕ) → length passage ≡ 4 * functions + 66 → length (tail p plan l passage offset) ≡ 16 * functions + 272 + 16 * plan.buffers + 48 + 16 * (length p.code + 1)
+  pub tail_long : (passage : List ℕ) (functions : ℕ) → length passage ≡ 4 * functions + 66 → length (tail p plan l passage offset) ≡ 16 * functions + 272 + 16 * plan.buffers + 48 + 16 * (length p.code + 1)
   tail_long passage functions long =
       let own = words_length (passage ++ 0 ∷ 0 ∷ []) in
       let words = length-append passage (0 ∷ 0 ∷ []) in
