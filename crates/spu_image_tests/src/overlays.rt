@@ -120,7 +120,7 @@ const REGION: [(u32, u32); 4] = [
 
 /// The words of the root of a program with three regions and two buffers of 1,024 bytes, from the start of the data on: the start,
 /// `main`, four stubs, the loader, two mapped quadwords, the loader's three, and the table.
-const ROOT_OF_THREE: [u32; 140] = [
+static ROOT_OF_THREE: [u32; 140] = [
     0x0003_ffe0,
     0x0000_4000,
     0x0000_0000,
@@ -287,6 +287,20 @@ fn options(
     })
 }
 
+/// Whether an image may have so many buffers.
+fn is_buffer_count(count: u32) -> bool
+    ensures { OnTrue result (Contains BUFFER_COUNTS count) }
+{
+    BUFFER_COUNTS.contains(&count)
+}
+
+/// Whether a buffer may have so many bytes.
+fn is_buffer_size(size: u32) -> bool
+    ensures { OnTrue result (Contains BUFFER_SIZES size) }
+{
+    BUFFER_SIZES.contains(&size)
+}
+
 /// Whether a link may be asked for this.
 fn are_allowed(options: &LinkOptions) -> bool
     ensures limit { OnTrue result (options.now.limit ≤ MAX_STACK_LIMIT) }
@@ -294,8 +308,8 @@ fn are_allowed(options: &LinkOptions) -> bool
     ensures largest { OnTrue result (Contains BUFFER_SIZES options.now.largest) }
 {
     options.limit <= MAX_STACK_LIMIT
-        && BUFFER_COUNTS.contains(&options.buffers)
-        && BUFFER_SIZES.contains(&options.largest)
+        && is_buffer_count(options.buffers)
+        && is_buffer_size(options.largest)
 }
 
 /// The link of a program, None where it isn't judged.
@@ -350,6 +364,18 @@ fn word(bytes: &[u8], at: u32) -> Option<u32> {
         (Some(a), Some(b), Some(c), Some(d)) => Some(u32::from_be_bytes([*a, *b, *c, *d])),
         _ => None,
     }
+}
+
+/// The offset of the first of these words that doesn't stand there in bytes, from their start on.
+fn first_difference(bytes: &[u8], words: &[u32]) -> Option<u32> {
+    let mut at: u32 = 0;
+    for w in words {
+        if word(bytes, at) != Some(*w) {
+            return Some(at);
+        }
+        at = at.saturating_add(4);
+    }
+    None
 }
 
 /// The value, the size and the segment of a global symbol with this name and kind.
@@ -442,11 +468,10 @@ fn three_regions_share_two_buffers(rt: HostRuntime) -> Result<(), Fail> {
     );
     match exec.segments.as_slice() {
         [root, first, second, third] => {
-            let mut at: u32 = 0;
-            for w in ROOT_OF_THREE {
-                assert_eq!(rt; word(root.bytes.as_slice(), at), Some(w), "at {at}");
-                at = at.saturating_add(4);
-            }
+            assert_eq!(rt;
+                first_difference(root.bytes.as_slice(), &ROOT_OF_THREE),
+                None
+            );
             assert_eq!(rt;
                 (
                     root.bytes.len(),
