@@ -1,5 +1,5 @@
 -- The image of a judged program, as the code makes it.
-use Rattle.std.proofs.Common.{◌≡◌, ℕ, ◌^◌, ◌<◌, ◌≤◌, Bool, true, false, List, length, Option, Some}
+use Rattle.std.proofs.Common.{◌≡◌, ℕ, ◌^◌, ◌<◌, ◌≤◌, Bool, true, false, List, length, Option, Some, sym, ap, subst}
 use Rattle.std.specs.Prelude.{Contains}
 use Rattle.spu_word.specs.declared.limits.TheConstants.{MAX_FILE_SIZE, MAX_STACK_LIMIT}
 use Rattle.spu_elf.specs.declared.executables.Exec.{Exec}
