@@ -25,6 +25,7 @@ pub(crate) const STACK_POINTER: u8 = 1;
 
 /// A register becomes unknown.
 #[tactic(auto, using(crate::proofs::Going::register_set))]
+#[inline(always)]
 fn forget_register(regs: &mut [SymQuad], r: usize)
     requires { r < length regs.old }
     ensures value { regs_of regs.new ≡ put r unknown_quad (regs_of regs.old) }
@@ -84,6 +85,7 @@ impl Ideal {
     }
 
     /// The link register has another quad.
+    #[inline(always)]
     fn put_link(&mut self, quad: SymQuad)
         ensures exact { state_of self.new ≡ record (state_of self.old) { regs = put LINK (quad_bytes quad) (state_of self.old).regs } }
         ensures count { self.new.steps ≡ self.old.steps }

@@ -1,4 +1,4 @@
-//! Quads of symbolic bytes. Most are numbers alone, and are kept as such.
+//! Quads of symbolic bytes. Most are numbers alone, and are kept as such, as are links and quads of which nothing is known.
 
 ghost use Rattle.std.specs.Prelude.{◌≡◌, ◌<◌, ◌==◌, ◌&&◌, ℕ, List, Bool, map, slice_index, if◌then◌else◌};
 ghost use Rattle.std.specs.List.{list_all};
@@ -27,6 +27,10 @@ use spu_word::{Quad, word};
 pub enum SymQuad {
     /// Numbers alone.
     Numbers(Quad),
+    /// The link of a place, by its function and the index of its word.
+    WholeLink(u32, u32),
+    /// Sixteen bytes of which nothing is known.
+    AllUnknown,
     /// Bytes that need not be numbers.
     Mixed([SymByte; 16]),
 }
@@ -40,6 +44,25 @@ fn symbolic(quad: &Quad) -> [SymByte; 16]
         bytes[k] = SymByte::Num(quad.0[k]);
     }
     bytes
+}
+
+/// The bytes of the link of a place.
+#[tactic(auto, using(crate::proofs::Listed::filled))]
+fn link_bytes(f: u32, i: u32) -> [SymByte; 16]
+    ensures { result ≡ link_of f i }
+{
+    let mut bytes = [SymByte::Unknown; 16];
+    for k in 0..16 {
+        bytes[k] = SymByte::Part(Label::Link(f, i), k as u8);
+    }
+    bytes
+}
+
+/// Sixteen bytes of which nothing is known.
+fn unknown_bytes() -> [SymByte; 16]
+    ensures { result ≡ unknown_quad }
+{
+    [SymByte::Unknown; 16]
 }
 
 /// The same bytes.
@@ -168,6 +191,16 @@ fn put_byte(bytes: &mut [SymByte; 16], k: usize, v: u8)
     bytes[k] = SymByte::Num(v);
 }
 
+/// The quad of these bytes with a number at a place.
+fn with_number(bytes: [SymByte; 16], k: usize, v: u8) -> SymQuad
+    requires { k < QUAD_SIZE }
+    ensures { (j : ℕ) → byte_in result j ≡ (if j == k then Num v else sym_at bytes j) }
+{
+    let mut bytes = bytes;
+    put_byte(&mut bytes, k, v);
+    SymQuad::Mixed(bytes)
+}
+
 impl SymQuad {
     /// The quad of these bytes.
     #[tactic(auto, using(crate::proofs::Listed::numbers_whole, crate::proofs::Listed::bytes_whole))]
@@ -182,22 +215,34 @@ impl SymQuad {
     }
 
     /// The link of a place.
+    #[tactic(auto, unfolding(crate::specs::Quads::quad_bytes))]
+    #[inline(always)]
     pub fn link(f: u32, i: u32) -> SymQuad
         ensures { quad_bytes result ≡ link_of f i }
     {
-        let mut bytes = [SymByte::Unknown; 16];
-        for k in 0..16 {
-            bytes[k] = SymByte::Part(Label::Link(f, i), k as u8);
-        }
-        SymQuad::Mixed(bytes)
+        SymQuad::WholeLink(f, i)
     }
 
     /// The quad of which nothing is known.
     #[tactic(auto, unfolding(crate::specs::Quads::quad_bytes))]
+    #[inline(always)]
     pub fn unknown() -> SymQuad
         ensures { quad_bytes result ≡ unknown_quad }
     {
-        SymQuad::Mixed([SymByte::Unknown; 16])
+        SymQuad::AllUnknown
+    }
+
+    /// Becomes the same as another, of which no more is written than it holds.
+    #[inline(always)]
+    pub fn copy(&mut self, other: &SymQuad)
+        ensures { self.new ≡ other.now }
+    {
+        match other {
+            SymQuad::Numbers(quad) => *self = SymQuad::Numbers(*quad),
+            SymQuad::WholeLink(f, i) => *self = SymQuad::WholeLink(*f, *i),
+            SymQuad::AllUnknown => *self = SymQuad::AllUnknown,
+            SymQuad::Mixed(bytes) => *self = SymQuad::Mixed(*bytes),
+        }
     }
 
     /// The bytes.
@@ -207,6 +252,8 @@ impl SymQuad {
     {
         match self {
             SymQuad::Numbers(quad) => symbolic(quad),
+            SymQuad::WholeLink(f, i) => link_bytes(*f, *i),
+            SymQuad::AllUnknown => unknown_bytes(),
             SymQuad::Mixed(bytes) => copied(bytes),
         }
     }
@@ -218,7 +265,7 @@ impl SymQuad {
     {
         match self {
             SymQuad::Numbers(_) => true,
-            SymQuad::Mixed(_) => false,
+            SymQuad::WholeLink(_, _) | SymQuad::AllUnknown | SymQuad::Mixed(_) => false,
         }
     }
 
@@ -230,7 +277,9 @@ impl SymQuad {
     {
         match self {
             SymQuad::Numbers(quad) => copied_numbers(quad),
-            SymQuad::Mixed(_) => copied_numbers(&Quad([0; 16])),
+            SymQuad::WholeLink(_, _) | SymQuad::AllUnknown | SymQuad::Mixed(_) => {
+                copied_numbers(&Quad([0; 16]))
+            }
         }
     }
 
@@ -240,6 +289,8 @@ impl SymQuad {
     {
         match self {
             SymQuad::Numbers(quad) => Some(word(quad, 0)),
+            SymQuad::WholeLink(_, _) => None,
+            SymQuad::AllUnknown => None,
             SymQuad::Mixed(bytes) => first_word(bytes),
         }
     }
@@ -251,6 +302,8 @@ impl SymQuad {
     {
         match self {
             SymQuad::Numbers(quad) => *quad,
+            SymQuad::WholeLink(_, _) => Quad([0; 16]),
+            SymQuad::AllUnknown => Quad([0; 16]),
             SymQuad::Mixed(bytes) => leading(bytes),
         }
     }
@@ -261,6 +314,8 @@ impl SymQuad {
     {
         match self {
             SymQuad::Numbers(_) => false,
+            SymQuad::WholeLink(g, j) => both(f == *g, i == *j),
+            SymQuad::AllUnknown => false,
             SymQuad::Mixed(bytes) => are_link(bytes, f, i),
         }
     }
@@ -271,6 +326,8 @@ impl SymQuad {
     {
         match self {
             SymQuad::Numbers(_) => None,
+            SymQuad::WholeLink(f, i) => Some(Label::Link(*f, *i)),
+            SymQuad::AllUnknown => None,
             SymQuad::Mixed(bytes) => first_label(bytes),
         }
     }
@@ -282,6 +339,8 @@ impl SymQuad {
     {
         match self {
             SymQuad::Numbers(quad) => number_at(quad, k),
+            SymQuad::WholeLink(f, i) => SymByte::Part(Label::Link(*f, *i), k as u8),
+            SymQuad::AllUnknown => SymByte::Unknown,
             SymQuad::Mixed(bytes) => byte_at(bytes, k),
         }
     }
@@ -289,10 +348,12 @@ impl SymQuad {
     /// Byte k becomes a number.
     pub fn put(&mut self, k: usize, v: u8)
         requires { k < QUAD_SIZE }
-        ensures { (j : ℕ) → byte_in self.new j ≡ (if j == k then Num v else byte_in self.old j) }
+        ensures { (j : ℕ) → j < QUAD_SIZE → byte_in self.new j ≡ (if j == k then Num v else byte_in self.old j) }
     {
         match self {
             SymQuad::Numbers(quad) => put_number(quad, k, v),
+            SymQuad::WholeLink(f, i) => *self = with_number(link_bytes(*f, *i), k, v),
+            SymQuad::AllUnknown => *self = with_number(unknown_bytes(), k, v),
             SymQuad::Mixed(bytes) => put_byte(bytes, k, v),
         }
     }

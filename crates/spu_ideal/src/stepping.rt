@@ -11,10 +11,11 @@ ghost use Rattle.spu_ideal.specs.Ends.{end_of, tick_of};
 ghost use Rattle.spu_ideal.specs.Machine.{acts, computes, goes_indirect, halts_where, obeys, run, start, step, where_taken, branches};
 ghost use Rattle.spu_ideal.specs.View.{HasRegisters, IsStateOf, StaysHigh, state_of, steps};
 
-use crate::computing::computed;
+use crate::computing::{computed, computed_numbers};
 use crate::conditions::{branch_test, halt_test};
 use crate::ending::{IdealEnd, Reason};
 use crate::ideal::{Ideal, instruction};
+use crate::quads::SymQuad;
 use crate::ticks::IdealTick;
 use spu_frame::Depths;
 use spu_isa::{Kind, info};
@@ -37,14 +38,17 @@ impl Ideal {
         ensures count { self.new.steps ≡ self.old.steps + 1 }
         ensures room { self.new.most_calls ≡ self.old.most_calls }
     {
-        let quad = computed(
-            x,
-            self.quad(x.inst.ra),
-            self.quad(x.inst.rb),
-            self.quad(x.inst.rc),
-            self.quad(x.inst.rt),
-        );
-        self.set(p, x.inst.rt, quad);
+        let a = self.quad(x.inst.ra);
+        let b = self.quad(x.inst.rb);
+        let c = self.quad(x.inst.rc);
+        let t = self.quad(x.inst.rt);
+        match computed_numbers(x, a, b, c, t) {
+            Some(quad) => self.set(p, x.inst.rt, SymQuad::Numbers(quad)),
+            None => {
+                let quad = computed(x, a, b, c, t);
+                self.set(p, x.inst.rt, quad);
+            }
+        }
     }
 
     /// Branches where the test of a branch is met.
