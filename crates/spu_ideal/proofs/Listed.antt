@@ -5,6 +5,7 @@ use Rattle.std.specs.List.{range_with_len, list_all}
 use Rattle.std.specs.Int.{byte_at}
 use Rattle.std.proofs.Math.ListN.{set}
 use Rattle.std.proofs.lemmas.Bool.{and_parts}
+use Rattle.std.proofs.lemmas.Bool.Decides.{nat_tests}
 use Rattle.spu_word.specs.Bytes.{word_of}
 use Rattle.spu_word.specs.declared.big_endian.Quad.{Quad}
 use Rattle.spu_isa.specs.declared.operation.Op.{Op}
@@ -14,7 +15,7 @@ use Rattle.spu_lift.specs.declared.program.Label.{Label}
 use Rattle.spu_lift.specs.declared.program.Label.TheVariants.{Link}
 use Rattle.spu_lift.specs.declared.symbolic.SymByte.{SymByte}
 use Rattle.spu_lift.specs.declared.symbolic.SymByte.TheVariants.{Num, Part, Unknown}
-use Rattle.spu_ideal.specs.Bytes.{numbers, sym_at, is_number, number_of, known_word, is_part, same_label, are_parts, is_link, sym_bytes, sixteen}
+use Rattle.spu_ideal.specs.Bytes.{numbers, sym_at, is_number, number_of, known_word, is_part, same_label, are_parts, is_link, sym_bytes, sixteen, link_of, unknown_quad}
 use Rattle.spu_ideal.specs.Machine.{label_of, word_label}
 use Rattle.spu_ideal.specs.declared.quads.SymQuad.{SymQuad}
 use Rattle.spu_ideal.specs.declared.quads.SymQuad.TheVariants.{Numbers, WholeLink, AllUnknown, Mixed}
@@ -165,6 +166,14 @@ bytes_label bytes = refl
 
 -- ---- quads that are kept as links or as unknown ones
 
+pub link_whole : (f i : ℕ) → quad_bytes (WholeLink f i) ≡ link_of f i
+unfolding quad_bytes
+link_whole f i = refl
+
+pub unknown_whole : quad_bytes AllUnknown ≡ unknown_quad
+unfolding quad_bytes
+unknown_whole = refl
+
 pub link_word : (f i : ℕ) → known_word (quad_bytes (WholeLink f i)) 0 ≡ None
 unfolding quad_bytes
 link_word f i = refl
@@ -189,7 +198,7 @@ unfolding are_parts
 parts_same l m zero lt = ap (λ s. is_part l 0 s && true) (sixteen_at (Part m) 0 lt) ∙ and_true (same_label l m) (0 == 0) refl
 parts_same l m (suc n) lt =
     ap₂ (λ s b. is_part l (suc n) s && b) (sixteen_at (Part m) (suc n) lt) (parts_same l m n (omega arith))
-    ∙ same_twice (same_label l m) (suc n == suc n) (eqb-refl (suc n))
+    ∙ same_twice (same_label l m) (suc n == suc n) (let e : (suc n == suc n) ≡ true = grind (arith, nat_tests) in e)
 
 pub link_link : (f i g j : ℕ) → is_link f i (quad_bytes (WholeLink g j)) ≡ ((f == g) && (i == j))
 unfolding quad_bytes

@@ -16,6 +16,7 @@ ghost use Rattle.spu_ideal.specs.Bytes.{
   unknown_quad,
 };
 ghost use Rattle.spu_ideal.specs.Machine.{label_of as label_of_bytes, word_label};
+ghost use Rattle.spu_ideal.specs.declared.quads.SymQuad.TheVariants.{Numbers, WholeLink, AllUnknown};
 ghost use Rattle.spu_ideal.specs.Quads.{byte_in, quad_bytes, is_plain as is_plain_of, plain_number};
 
 use crate::byte_moves::{first_word, is_number, is_part, number_or_zero};
@@ -214,34 +215,74 @@ impl SymQuad {
         }
     }
 
-    /// The link of a place.
-    #[tactic(auto, unfolding(crate::specs::Quads::quad_bytes))]
-    #[inline(always)]
-    pub fn link(f: u32, i: u32) -> SymQuad
-        ensures { quad_bytes result ≡ link_of f i }
+    /// Another quad takes its place.
+    #[inline(never)]
+    fn replace(&mut self, other: &SymQuad)
+        ensures { self.new ≡ other.now }
     {
-        SymQuad::WholeLink(f, i)
+        *self = *other;
     }
 
-    /// The quad of which nothing is known.
-    #[tactic(auto, unfolding(crate::specs::Quads::quad_bytes))]
+    /// Becomes these numbers, in place where it is kept as numbers.
     #[inline(always)]
-    pub fn unknown() -> SymQuad
-        ensures { quad_bytes result ≡ unknown_quad }
+    pub fn put_numbers(&mut self, quad: &Quad)
+        ensures { self.new ≡ Numbers quad.now }
     {
-        SymQuad::AllUnknown
+        match self {
+            SymQuad::Numbers(old) => *old = *quad,
+            SymQuad::WholeLink(_, _) | SymQuad::AllUnknown | SymQuad::Mixed(_) => {
+                self.become_numbers(quad)
+            }
+        }
     }
 
-    /// Becomes the same as another, of which no more is written than it holds.
+    /// Becomes these numbers.
+    #[inline(never)]
+    fn become_numbers(&mut self, quad: &Quad)
+        ensures { self.new ≡ Numbers quad.now }
+    {
+        *self = SymQuad::Numbers(*quad);
+    }
+
+    /// Becomes the link of a place.
+    #[inline(always)]
+    pub fn put_link(&mut self, f: u32, i: u32)
+        ensures { self.new ≡ WholeLink f i }
+    {
+        match self {
+            SymQuad::WholeLink(g, j) => {
+                *g = f;
+                *j = i;
+            }
+            SymQuad::Numbers(_) | SymQuad::AllUnknown | SymQuad::Mixed(_) => {
+                self.replace(&SymQuad::WholeLink(f, i))
+            }
+        }
+    }
+
+    /// Nothing is known of it any more.
+    #[inline(always)]
+    pub fn forget(&mut self)
+        ensures { self.new ≡ AllUnknown }
+    {
+        match self {
+            SymQuad::AllUnknown => {}
+            SymQuad::Numbers(_) | SymQuad::WholeLink(_, _) | SymQuad::Mixed(_) => {
+                self.replace(&SymQuad::AllUnknown)
+            }
+        }
+    }
+
+    /// Becomes the same as another.
     #[inline(always)]
     pub fn copy(&mut self, other: &SymQuad)
         ensures { self.new ≡ other.now }
     {
         match other {
-            SymQuad::Numbers(quad) => *self = SymQuad::Numbers(*quad),
-            SymQuad::WholeLink(f, i) => *self = SymQuad::WholeLink(*f, *i),
-            SymQuad::AllUnknown => *self = SymQuad::AllUnknown,
-            SymQuad::Mixed(bytes) => *self = SymQuad::Mixed(*bytes),
+            SymQuad::Numbers(quad) => self.put_numbers(quad),
+            SymQuad::WholeLink(_, _) | SymQuad::AllUnknown | SymQuad::Mixed(_) => {
+                self.replace(other)
+            }
         }
     }
 

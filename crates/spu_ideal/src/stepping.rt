@@ -15,7 +15,6 @@ use crate::computing::{computed, computed_numbers};
 use crate::conditions::{branch_test, halt_test};
 use crate::ending::{IdealEnd, Reason};
 use crate::ideal::{Ideal, instruction};
-use crate::quads::SymQuad;
 use crate::ticks::IdealTick;
 use spu_frame::Depths;
 use spu_isa::{Kind, info};
@@ -27,7 +26,28 @@ pub fn steps_are_the_run()
 {}
 
 impl Ideal {
-    /// Does what a computing instruction says.
+    /// Does what a computing instruction says, whatever its sources hold.
+    #[inline(never)]
+    fn compute_bytes(&mut self, p: &Prog, x: &SymInst)
+        requires kind { kind_of x.now ≡ kind.Compute }
+        requires fields { HasRegisters x.now.inst }
+        requires near { self.old.i + 1 < 2 ^ 32 }
+        requires count { self.old.steps + 1 < 2 ^ 64 }
+        ensures exact { state_of self.new ≡ computes p.now x.now (state_of self.old) }
+        ensures count { self.new.steps ≡ self.old.steps + 1 }
+        ensures room { self.new.most_calls ≡ self.old.most_calls }
+    {
+        let quad = computed(
+            x,
+            self.quad(x.inst.ra),
+            self.quad(x.inst.rb),
+            self.quad(x.inst.rc),
+            self.quad(x.inst.rt),
+        );
+        self.set(p, x.inst.rt, quad);
+    }
+
+    /// Does what a computing instruction says. Where it reads numbers alone it computes with these.
     #[inline(always)]
     fn compute(&mut self, p: &Prog, x: &SymInst)
         requires kind { kind_of x.now ≡ kind.Compute }
@@ -38,16 +58,16 @@ impl Ideal {
         ensures count { self.new.steps ≡ self.old.steps + 1 }
         ensures room { self.new.most_calls ≡ self.old.most_calls }
     {
-        let a = self.quad(x.inst.ra);
-        let b = self.quad(x.inst.rb);
-        let c = self.quad(x.inst.rc);
-        let t = self.quad(x.inst.rt);
-        match computed_numbers(x, a, b, c, t) {
-            Some(quad) => self.set(p, x.inst.rt, SymQuad::Numbers(quad)),
-            None => {
-                let quad = computed(x, a, b, c, t);
-                self.set(p, x.inst.rt, quad);
-            }
+        let numbers = computed_numbers(
+            x,
+            self.quad(x.inst.ra),
+            self.quad(x.inst.rb),
+            self.quad(x.inst.rc),
+            self.quad(x.inst.rt),
+        );
+        match numbers {
+            Some(quad) => self.set_numbers(p, x.inst.rt, quad),
+            None => self.compute_bytes(p, x),
         }
     }
 

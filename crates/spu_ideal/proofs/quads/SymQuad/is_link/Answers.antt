@@ -13,3 +13,6 @@ returns-in-Mixed c = c.are_link.ensures ∙ sym (bytes_link c.args.f c.args.i c.
 
 pub returns-in-AllUnknown : goal.returns-in-AllUnknown
 returns-in-AllUnknown c = sym (unknown_no_link c.args.f c.args.i) ∙ sym (ap (λ (q : SymQuad). is_link c.args.f c.args.i (quad_bytes q)) c.in-AllUnknown.is)
+
+pub returns-in-WholeLink : goal.returns-in-WholeLink
+returns-in-WholeLink c = c.both.ensures ∙ sym (link_link c.args.f c.args.i c.in-WholeLink.g c.in-WholeLink.j) ∙ sym (ap (λ (q : SymQuad). is_link c.args.f c.args.i (quad_bytes q)) c.in-WholeLink.is)
