@@ -102,14 +102,11 @@ impl Ideal {
         ensures count { self.new.steps ≡ self.old.steps }
         ensures room { self.new.most_calls ≡ self.old.most_calls }
     {
+        let f = self.f;
+        let i = self.i + 1;
         let pointer = self.quad(STACK_POINTER).first_word();
-        let call = OpenCall {
-            f: self.f,
-            i: self.i + 1,
-            pointer,
-        };
-        self.push_call(call);
-        self.put_link(self.f, self.i + 1);
+        self.push_call(OpenCall { f, i, pointer });
+        self.put_link(f, i);
     }
 
     /// The innermost open call is closed.

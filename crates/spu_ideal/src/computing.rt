@@ -370,6 +370,7 @@ pub fn computed_numbers(
 }
 
 /// What a computing instruction leaves in its register; a, b, c and t are the quads of ra, rb, rc and the old rt.
+#[tactic(auto, using(crate::proofs::Listed::unknown_whole))]
 #[inline(never)]
 pub fn computed(x: &SymInst, a: &SymQuad, b: &SymQuad, c: &SymQuad, t: &SymQuad) -> SymQuad
     requires { (row_of x.now.inst.op).kind ≡ Compute }
@@ -386,6 +387,6 @@ pub fn computed(x: &SymInst, a: &SymQuad, b: &SymQuad, c: &SymQuad, t: &SymQuad)
             &c.bytes(),
             &t.bytes(),
         )),
-        Operand::Call(_) | Operand::Jump(_) | Operand::Branch(_) => SymQuad::unknown(),
+        Operand::Call(_) | Operand::Jump(_) | Operand::Branch(_) => SymQuad::AllUnknown,
     }
 }
