@@ -129,7 +129,10 @@ fn puts_mail_into_an_area(rt: HostRuntime) -> Result<(), Fail> {
 fn refuses_an_unresolved_name(rt: HostRuntime) -> Result<(), Fail> {
     let told = match refusal(rt.alloc(), b"bug", 0x1000)? {
         LoadFault::UnresolvedName(name) => name.as_slice() == b"buf",
-        LoadFault::AreasOverlap(_) | LoadFault::AreaRange(_) | LoadFault::OutOfMemory => false,
+        LoadFault::AreasOverlap(_)
+        | LoadFault::AreaRange(_)
+        | LoadFault::SegmentRange(_)
+        | LoadFault::OutOfMemory => false,
     };
     assert!(rt; told);
     Ok(())
@@ -139,7 +142,10 @@ fn refuses_an_unresolved_name(rt: HostRuntime) -> Result<(), Fail> {
 fn refuses_areas_that_overlap(rt: HostRuntime) -> Result<(), Fail> {
     let told = match refusal(rt.alloc(), b"buf", 0x1ff0)? {
         LoadFault::AreasOverlap(name) => name.as_slice() == b"other",
-        LoadFault::UnresolvedName(_) | LoadFault::AreaRange(_) | LoadFault::OutOfMemory => false,
+        LoadFault::UnresolvedName(_)
+        | LoadFault::AreaRange(_)
+        | LoadFault::SegmentRange(_)
+        | LoadFault::OutOfMemory => false,
     };
     assert!(rt; told);
     Ok(())
@@ -149,7 +155,10 @@ fn refuses_areas_that_overlap(rt: HostRuntime) -> Result<(), Fail> {
 fn refuses_an_address_that_is_no_multiple(rt: HostRuntime) -> Result<(), Fail> {
     let told = match refusal(rt.alloc(), b"buf", 0x1008)? {
         LoadFault::AreaRange(name) => name.as_slice() == b"buf",
-        LoadFault::UnresolvedName(_) | LoadFault::AreasOverlap(_) | LoadFault::OutOfMemory => false,
+        LoadFault::UnresolvedName(_)
+        | LoadFault::AreasOverlap(_)
+        | LoadFault::SegmentRange(_)
+        | LoadFault::OutOfMemory => false,
     };
     assert!(rt; told);
     Ok(())
