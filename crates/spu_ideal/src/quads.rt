@@ -255,9 +255,17 @@ impl SymQuad {
                 *j = i;
             }
             SymQuad::Numbers(_) | SymQuad::AllUnknown | SymQuad::Mixed(_) => {
-                self.replace(&SymQuad::WholeLink(f, i))
+                self.become_link(f, i)
             }
         }
+    }
+
+    /// Becomes a link.
+    #[inline(never)]
+    fn become_link(&mut self, f: u32, i: u32)
+        ensures { self.new ≡ WholeLink f i }
+    {
+        *self = SymQuad::WholeLink(f, i);
     }
 
     /// Nothing is known of it any more.
@@ -268,9 +276,17 @@ impl SymQuad {
         match self {
             SymQuad::AllUnknown => {}
             SymQuad::Numbers(_) | SymQuad::WholeLink(_, _) | SymQuad::Mixed(_) => {
-                self.replace(&SymQuad::AllUnknown)
+                self.become_unknown()
             }
         }
+    }
+
+    /// Becomes a quad of which nothing is known.
+    #[inline(never)]
+    fn become_unknown(&mut self)
+        ensures { self.new ≡ AllUnknown }
+    {
+        *self = SymQuad::AllUnknown;
     }
 
     /// Becomes the same as another.
