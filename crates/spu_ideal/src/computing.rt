@@ -28,7 +28,7 @@ ghost use Rattle.spu_ideal.specs.Results.{
 
 use crate::byte_moves::{is_number, moved};
 use crate::quads::{SymQuad, both, numbers};
-use spu_exec::{Source, apply, names, reads};
+use spu_exec::{Source, apply, apply_to, names, reads};
 use spu_isa::{Inst, Op};
 use spu_lift::{Label, Operand, SymByte, SymInst};
 use spu_reloc::RelocKind;
@@ -309,7 +309,9 @@ fn number_value(i: &Inst, a: &SymQuad, b: &SymQuad, c: &SymQuad, t: &SymQuad) ->
     let second = b.plain();
     let third = c.plain();
     let old = t.plain();
-    apply(i, &first, &second, &third, &old)
+    let mut quad = old;
+    apply_to(i, &first, &second, &third, &mut quad);
+    quad
 }
 
 /// What a computing instruction leaves, where its field stands for its immediate and each source that it reads is kept as numbers.
