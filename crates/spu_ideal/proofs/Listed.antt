@@ -1,6 +1,6 @@
 -- Lists of bytes that loops have filled, and what quads of numbers are.
 use Rattle.std.proofs.Common.{◌≡◌, ℕ, zero, suc, ◌+◌, ◌-◌, ◌/◌, ◌%◌, ◌^◌, ◌<◌, ◌≤◌, List, [], ◌∷◌, length, get_or, Some, None, Bool, true, false, refl, sym, subst, ap, ap₂, ◌∙◌, arith}
-use Rattle.std.specs.Prelude.{◌==◌, ◌&&◌, if◌then◌else◌, map, slice_index}
+use Rattle.std.specs.Prelude.{◌==◌, ◌&&◌, if◌then◌else◌, map, slice_index, Option, IfSome}
 use Rattle.std.specs.List.{range_with_len, list_all}
 use Rattle.std.specs.Int.{byte_at}
 use Rattle.std.proofs.Math.ListN.{set}
@@ -221,6 +221,9 @@ plain_bytes (Numbers quad) k lt e = bytes_at (Numbers quad) k lt
 plain_bytes (WholeLink f i) k lt e = cc
 plain_bytes AllUnknown k lt e = cc
 plain_bytes (Mixed bytes) k lt e = cc
+
+pub some_numbers : (o : Option Quad) (v w : List SymByte) → v ≡ w → IfSome o (λ quad. quad_bytes (Numbers quad) ≡ v) → IfSome o (λ quad. quad_bytes (Numbers quad) ≡ w)
+some_numbers o v w e h = subst (λ (u : List SymByte). IfSome o (λ quad. quad_bytes (Numbers quad) ≡ u)) e h
 
 pub whole : (q : SymQuad) → length (quad_bytes q) ≡ 16
 unfolding quad_bytes

@@ -354,6 +354,7 @@ fn with_number(x: &SymInst) -> Option<Inst>
 
 /// The numbers that a computing instruction leaves in its register, where each source that it reads is kept as numbers; a, b, c
 /// and t are the quads of ra, rb, rc and the old rt.
+#[tactic(auto, using(crate::proofs::Listed::some_numbers))]
 #[inline(always)]
 pub fn computed_numbers(
     x: &SymInst,

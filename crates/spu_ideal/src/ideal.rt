@@ -150,7 +150,7 @@ impl Ideal {
     }
 
     /// The run goes on at the next place with other numbers in a register.
-    #[tactic(auto, using(crate::proofs::Going::register_set))]
+    #[tactic(auto, using(crate::proofs::Going::register_numbered))]
     #[inline(always)]
     pub(crate) fn set_numbers(&mut self, p: &Prog, r: u8, quad: Quad)
         requires register { r < REGISTER_COUNT }

@@ -50,7 +50,7 @@ fn is_stack(entry: Option<u32>, frame: u32, at: u32, size: u32) -> bool
 }
 
 /// The quad at an address becomes that of a register.
-#[tactic(auto, using(crate::proofs::Going::quad_loaded, crate::proofs::Going::register_set))]
+#[tactic(auto, using(crate::proofs::Going::register_loaded))]
 #[inline(always)]
 fn load_quad(regs: &mut [SymQuad], r: usize, store: &[SymQuad], at: u32)
     requires register { r < length regs.old }
@@ -63,7 +63,7 @@ fn load_quad(regs: &mut [SymQuad], r: usize, store: &[SymQuad], at: u32)
 }
 
 /// Puts a quad at an address.
-#[tactic(auto, using(crate::proofs::Going::quad_saved))]
+#[tactic(auto, using(crate::proofs::Going::quad_copied))]
 #[inline(always)]
 fn put_quad(store: &mut [SymQuad], at: u32, quad: &SymQuad)
     requires address { IsQuadAddress at }
