@@ -128,7 +128,7 @@ fn puts_mail_into_an_area(rt: HostRuntime) -> Result<(), Fail> {
 #[test]
 fn refuses_an_unresolved_name(rt: HostRuntime) -> Result<(), Fail> {
     let told = match refusal(rt.alloc(), b"bug", 0x1000)? {
-        LoadFault::UnresolvedName(name) => name.as_slice() == b"buf",
+        LoadFault::UnresolvedName(name) => name.as_slice() == b"buf".as_slice(),
         LoadFault::AreasOverlap(_)
         | LoadFault::AreaRange(_)
         | LoadFault::SegmentRange(_)
@@ -141,7 +141,7 @@ fn refuses_an_unresolved_name(rt: HostRuntime) -> Result<(), Fail> {
 #[test]
 fn refuses_areas_that_overlap(rt: HostRuntime) -> Result<(), Fail> {
     let told = match refusal(rt.alloc(), b"buf", 0x1ff0)? {
-        LoadFault::AreasOverlap(name) => name.as_slice() == b"other",
+        LoadFault::AreasOverlap(name) => name.as_slice() == b"other".as_slice(),
         LoadFault::UnresolvedName(_)
         | LoadFault::AreaRange(_)
         | LoadFault::SegmentRange(_)
@@ -154,7 +154,7 @@ fn refuses_areas_that_overlap(rt: HostRuntime) -> Result<(), Fail> {
 #[test]
 fn refuses_an_address_that_is_no_multiple(rt: HostRuntime) -> Result<(), Fail> {
     let told = match refusal(rt.alloc(), b"buf", 0x1008)? {
-        LoadFault::AreaRange(name) => name.as_slice() == b"buf",
+        LoadFault::AreaRange(name) => name.as_slice() == b"buf".as_slice(),
         LoadFault::UnresolvedName(_)
         | LoadFault::AreasOverlap(_)
         | LoadFault::SegmentRange(_)
