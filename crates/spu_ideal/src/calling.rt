@@ -23,7 +23,6 @@ const LINK: u8 = 0;
 pub(crate) const STACK_POINTER: u8 = 1;
 
 /// A register becomes unknown.
-#[tactic(auto, using(crate::proofs::Going::register_forgotten))]
 #[inline(always)]
 fn forget_register(regs: &mut [SymQuad], r: usize)
     requires { r < length regs.old }
@@ -84,7 +83,6 @@ impl Ideal {
     }
 
     /// The link register has the link of a place.
-    #[tactic(auto, using(crate::proofs::Going::register_linked))]
     #[inline(always)]
     fn put_link(&mut self, f: u32, i: u32)
         ensures exact { state_of self.new ≡ record (state_of self.old) { regs = put LINK (link_of f i) (state_of self.old).regs } }

@@ -50,7 +50,6 @@ fn is_stack(entry: Option<u32>, frame: u32, at: u32, size: u32) -> bool
 }
 
 /// The quad at an address becomes that of a register.
-#[tactic(auto, using(crate::proofs::Going::register_loaded))]
 #[inline(always)]
 fn load_quad(regs: &mut [SymQuad], r: usize, store: &[SymQuad], at: u32)
     requires register { r < length regs.old }
