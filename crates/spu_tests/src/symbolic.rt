@@ -34,24 +34,26 @@ d: .octa 0
 _EAR_buf: .octa 0
 ";
 
-// The object of the program.
-fn objects(alloc: Global) -> Result<Seq<Object>, Fail>
+// The object of a text.
+fn objects(alloc: Global, text: &[u8]) -> Result<Seq<Object>, Fail>
     ensures few { IfOk result (λ objects. length objects ≤ MAX_OBJECTS) }
     ensures formed { IfOk result (All IsWellFormed) }
 {
-    let object = assemble(alloc, TEXT).ok().ok_or("an object")?;
+    let object = assemble(alloc, text).ok().ok_or("an object")?;
     let mut objects = Seq::new(alloc);
     objects.push(object)?;
     Ok(objects)
 }
 
-// The program, judged for a stack of 16,384 bytes.
-fn judged(alloc: Global) -> Result<Judged, Fail>
+// The program of a text, judged for a stack of 16,384 bytes.
+fn judged(alloc: Global, text: &[u8]) -> Result<Judged, Fail>
     ensures { IfOk result (λ j. IsJudgement j.prog 16384 j) }
 {
-    let objects = objects(alloc)?;
-    let judged = judge(alloc, &objects, b"main", 16_384).ok();
-    Ok(judged.ok_or("judged")?)
+    let objects = objects(alloc, text)?;
+    match judge(alloc, &objects, b"main", 16_384) {
+        Ok(judged) => Ok(judged),
+        Err(_) => Err("not judged")?,
+    }
 }
 
 // An area of zeros.
@@ -104,7 +106,7 @@ fn run_of(
 
 // Why the program isn't loaded with an area of this name and address.
 fn refusal(alloc: Global, name: &[u8], ea: u64) -> Result<LoadFault, Fail> {
-    let j = judged(alloc)?;
+    let j = judged(alloc, TEXT)?;
     let inputs = inputs(alloc, name, ea)?;
     let run = run_of(alloc, &j, &inputs, 0).ok_or("data below the stack")?;
     Ok(run.err().ok_or("loaded")?)
@@ -113,7 +115,7 @@ fn refusal(alloc: Global, name: &[u8], ea: u64) -> Result<LoadFault, Fail> {
 #[test]
 fn puts_mail_into_an_area(rt: HostRuntime) -> Result<(), Fail> {
     let alloc = rt.alloc();
-    let j = judged(alloc)?;
+    let j = judged(alloc, TEXT)?;
     let inputs = inputs(alloc, b"buf", 0x1000)?;
     let run = run_of(alloc, &j, &inputs, 100).ok_or("data below the stack")?;
     let (end, ideal) = run.ok().ok_or("loaded")?;
