@@ -24,13 +24,13 @@ use Rattle.spu_lift.specs.declared.program.Prog.{Prog}
 use Rattle.spu_lift.specs.declared.symbolic.SymByte.{SymByte}
 use Rattle.spu_lift.specs.declared.symbolic.SymByte.TheVariants.{Num}
 use Rattle.spu_ideal.specs.declared.quads.SymQuad.{SymQuad}
-use Rattle.spu_ideal.specs.declared.quads.SymQuad.TheVariants.{Numbers}
-use Rattle.spu_ideal.specs.Bytes.{numbers, sym_at, sixteen, unknown_quad}
+use Rattle.spu_ideal.specs.declared.quads.SymQuad.TheVariants.{Numbers, WholeLink, AllUnknown}
+use Rattle.spu_ideal.specs.Bytes.{numbers, sym_at, sixteen, link_of, unknown_quad}
 use Rattle.spu_ideal.specs.State.{Sym, put, forgotten_regs, goes_to, advances, outside}
 use Rattle.spu_ideal.specs.Accesses.{loaded, saved}
 use Rattle.spu_ideal.specs.Quads.{byte_in, quad_bytes}
 use Rattle.spu_ideal.specs.View.{quad_in, regs_of, store_of}
-use Rattle.spu_ideal.proofs.Listed.{bytes_at, sixteen_same}
+use Rattle.spu_ideal.proofs.Listed.{bytes_at, link_whole, sixteen_same, unknown_whole}
 
 abbrev zeros : SymQuad
 zeros = Numbers (record { 0 = 0 ∷ 0 ∷ 0 ∷ 0 ∷ 0 ∷ 0 ∷ 0 ∷ 0 ∷ 0 ∷ 0 ∷ 0 ∷ 0 ∷ 0 ∷ 0 ∷ 0 ∷ 0 ∷ [] })
@@ -42,6 +42,19 @@ register_set quads r q lt = fun_ext (λ k.
     cond_both (k == r) (quad_bytes q) (quad_bytes (get_or quads k zeros)) (λ v. quad_bytes (get_or (set quads r q) k zeros) ≡ v)
     (λ is. let e : k ≡ r = grind (arith, nat_tests) in ap quad_bytes (get_or-set_at quads r k q zeros e lt))
     (λ is. let ne : k ≢ r = grind (arith, nat_tests) in ap quad_bytes (rw get_or-set_other refl)))
+
+-- a register that becomes numbers, a link, or unknown
+register_whole : (quads : List SymQuad) (r : ℕ) (q : SymQuad) (v : List SymByte) → r < length quads → quad_bytes q ≡ v → regs_of (set quads r q) ≡ put r v (regs_of quads)
+register_whole quads r q v lt e = register_set quads r q lt ∙ ap (λ (w : List SymByte). put r w (regs_of quads)) e
+
+pub register_numbered : (quads : List SymQuad) (r : ℕ) (q : SymQuad) (quad : Quad) → r < length quads → q ≡ Numbers quad → regs_of (set quads r q) ≡ put r (quad_bytes (Numbers quad)) (regs_of quads)
+register_numbered quads r q quad lt e = register_whole quads r q (quad_bytes (Numbers quad)) lt (ap quad_bytes e)
+
+pub register_linked : (quads : List SymQuad) (r : ℕ) (q : SymQuad) (f i : ℕ) → r < length quads → q ≡ WholeLink f i → regs_of (set quads r q) ≡ put r (link_of f i) (regs_of quads)
+register_linked quads r q f i lt e = register_whole quads r q (link_of f i) lt (ap quad_bytes e ∙ link_whole f i)
+
+pub register_forgotten : (quads : List SymQuad) (r : ℕ) (q : SymQuad) → r < length quads → q ≡ AllUnknown → regs_of (set quads r q) ≡ put r unknown_quad (regs_of quads)
+register_forgotten quads r q lt e = register_whole quads r q unknown_quad lt (ap quad_bytes e ∙ unknown_whole)
 
 -- the loader's registers up to one
 abbrev pub forgotten_to : ℕ → (ℕ → List SymByte) → ℕ → List SymByte
@@ -88,6 +101,14 @@ quad_saved quads at q aligned lt = fun_ext (λ k.
     (λ is.
     let ne : k / 16 ≢ at / 16 = λ e. absurd (let low : at ≤ k = omega arith in let up : k < at + 16 = omega arith in grind (arith, nat_tests)) in
     ap (λ (u : SymQuad). sym_at (quad_bytes u) (k % 16)) (rw get_or-set_other refl)))
+
+-- a register that becomes a quadword of the store, and a quadword that becomes a register's quad
+pub register_loaded : (quads store : List SymQuad) (r at : ℕ) (q d : SymQuad) → r < length quads → at % 16 ≡ 0 → at / 16 < length store → q ≡ get_or store (at / 16) d
+    → regs_of (set quads r q) ≡ put r (loaded at (store_of store)) (regs_of quads)
+register_loaded quads store r at q d lt aligned inside e = register_whole quads r q (loaded at (store_of store)) lt (ap quad_bytes e ∙ quad_loaded store at d aligned inside)
+
+pub quad_copied : (quads : List SymQuad) (at : ℕ) (q r : SymQuad) → at % 16 ≡ 0 → at / 16 < length quads → q ≡ r → store_of (set quads (at / 16) q) ≡ saved at (quad_bytes r) (store_of quads)
+quad_copied quads at q r aligned lt e = quad_saved quads at q aligned lt ∙ ap (λ (v : List SymByte). saved at v (store_of quads)) (ap quad_bytes e)
 
 pub stored_byte : (quads : List SymQuad) (a : ℕ) (d : SymQuad) → a / 16 < length quads → byte_in (get_or quads (a / 16) d) (a % 16) ≡ store_of quads a
 stored_byte quads a d lt = ap (λ (u : SymQuad). byte_in u (a % 16)) (get_or_default quads (a / 16) d zeros lt) ∙ sym (bytes_at (get_or quads (a / 16) zeros) (a % 16) (omega arith))

@@ -1,22 +1,24 @@
 -- Lists of bytes that loops have filled, and what quads of numbers are.
 use Rattle.std.proofs.Common.{◌≡◌, ℕ, zero, suc, ◌+◌, ◌-◌, ◌/◌, ◌%◌, ◌^◌, ◌<◌, ◌≤◌, List, [], ◌∷◌, length, get_or, Some, None, Bool, true, false, refl, sym, subst, ap, ap₂, ◌∙◌, arith}
-use Rattle.std.specs.Prelude.{◌&&◌, if◌then◌else◌, map, slice_index}
+use Rattle.std.specs.Prelude.{◌==◌, ◌&&◌, if◌then◌else◌, map, slice_index, Option, IfSome}
 use Rattle.std.specs.List.{range_with_len, list_all}
 use Rattle.std.specs.Int.{byte_at}
 use Rattle.std.proofs.Math.ListN.{set}
 use Rattle.std.proofs.lemmas.Bool.{and_parts}
+use Rattle.std.proofs.lemmas.Bool.Decides.{nat_tests}
 use Rattle.spu_word.specs.Bytes.{word_of}
 use Rattle.spu_word.specs.declared.big_endian.Quad.{Quad}
 use Rattle.spu_isa.specs.declared.operation.Op.{Op}
 use Rattle.spu_isa.specs.declared.operation.Op.TheVariants as op
 use Rattle.spu_exec.specs.Moves.{moved, or_byte, first_word}
 use Rattle.spu_lift.specs.declared.program.Label.{Label}
+use Rattle.spu_lift.specs.declared.program.Label.TheVariants.{Link}
 use Rattle.spu_lift.specs.declared.symbolic.SymByte.{SymByte}
 use Rattle.spu_lift.specs.declared.symbolic.SymByte.TheVariants.{Num, Part, Unknown}
-use Rattle.spu_ideal.specs.Bytes.{numbers, sym_at, is_number, number_of, known_word, is_part, are_parts, is_link, sym_bytes, sixteen}
+use Rattle.spu_ideal.specs.Bytes.{numbers, sym_at, is_number, number_of, known_word, is_part, same_label, are_parts, is_link, sym_bytes, sixteen, link_of, unknown_quad}
 use Rattle.spu_ideal.specs.Machine.{label_of, word_label}
 use Rattle.spu_ideal.specs.declared.quads.SymQuad.{SymQuad}
-use Rattle.spu_ideal.specs.declared.quads.SymQuad.TheVariants.{Numbers, Mixed}
+use Rattle.spu_ideal.specs.declared.quads.SymQuad.TheVariants.{Numbers, WholeLink, AllUnknown, Mixed}
 use Rattle.spu_ideal.specs.Quads.{byte_in, quad_bytes, is_plain, plain_number}
 use Rattle.spu_ideal.specs.Results.{are_known}
 
@@ -162,9 +164,66 @@ pub bytes_label : (bytes : List SymByte) → word_label (quad_bytes (Mixed bytes
 unfolding quad_bytes
 bytes_label bytes = refl
 
+-- ---- quads that are kept as links or as unknown ones
+
+pub link_whole : (f i : ℕ) → quad_bytes (WholeLink f i) ≡ link_of f i
+unfolding quad_bytes
+link_whole f i = refl
+
+pub unknown_whole : quad_bytes AllUnknown ≡ unknown_quad
+unfolding quad_bytes
+unknown_whole = refl
+
+pub link_word : (f i : ℕ) → known_word (quad_bytes (WholeLink f i)) 0 ≡ None
+unfolding quad_bytes
+link_word f i = refl
+
+pub unknown_word : known_word (quad_bytes AllUnknown) 0 ≡ None
+unfolding quad_bytes
+unknown_word = refl
+
+same_twice : (b p : Bool) → p ≡ true → ((b && p) && b) ≡ b
+same_twice true true e = refl
+same_twice false true e = refl
+same_twice b false e = cc
+
+and_true : (b p : Bool) → p ≡ true → ((b && p) && true) ≡ b
+and_true true true e = refl
+and_true false true e = refl
+and_true b false e = cc
+
+-- the first parts of one label beside another's
+parts_same : (l m : Label) (n : ℕ) → n < 16 → are_parts l (sixteen (Part m)) (suc n) ≡ same_label l m
+unfolding are_parts
+parts_same l m zero lt = ap (λ s. is_part l 0 s && true) (sixteen_at (Part m) 0 lt) ∙ and_true (same_label l m) (0 == 0) refl
+parts_same l m (suc n) lt =
+    ap₂ (λ s b. is_part l (suc n) s && b) (sixteen_at (Part m) (suc n) lt) (parts_same l m n (omega arith))
+    ∙ same_twice (same_label l m) (suc n == suc n) (let e : (suc n == suc n) ≡ true = grind (arith, nat_tests) in e)
+
+pub link_link : (f i g j : ℕ) → is_link f i (quad_bytes (WholeLink g j)) ≡ ((f == g) && (i == j))
+unfolding quad_bytes
+link_link f i g j = parts_same (Link f i) (Link g j) 15 (omega arith)
+
+pub unknown_no_link : (f i : ℕ) → is_link f i (quad_bytes AllUnknown) ≡ false
+unfolding quad_bytes are_parts
+unknown_no_link f i = refl
+
+pub link_label : (f i : ℕ) → word_label (quad_bytes (WholeLink f i)) ≡ Some (Link f i)
+unfolding quad_bytes
+link_label f i = ap (λ b. if (b && true) && ((b && true) && (b && true)) then Some (Link f i) else None) (let e : ((f == f) && (i == i)) ≡ true = grind (arith, nat_tests) in e)
+
+pub unknown_no_label : word_label (quad_bytes AllUnknown) ≡ None
+unfolding quad_bytes
+unknown_no_label = refl
+
 pub plain_bytes : (q : SymQuad) (k : ℕ) → k < 16 → is_plain q ≡ true → sym_at (quad_bytes q) k ≡ Num (plain_number q k)
 plain_bytes (Numbers quad) k lt e = bytes_at (Numbers quad) k lt
+plain_bytes (WholeLink f i) k lt e = cc
+plain_bytes AllUnknown k lt e = cc
 plain_bytes (Mixed bytes) k lt e = cc
+
+pub some_numbers : (o : Option Quad) (v w : List SymByte) → v ≡ w → IfSome o (λ quad. quad_bytes (Numbers quad) ≡ v) → IfSome o (λ quad. quad_bytes (Numbers quad) ≡ w)
+some_numbers o v w e h = subst (λ (u : List SymByte). IfSome o (λ quad. quad_bytes (Numbers quad) ≡ u)) e h
 
 pub whole : (q : SymQuad) → length (quad_bytes q) ≡ 16
 unfolding quad_bytes

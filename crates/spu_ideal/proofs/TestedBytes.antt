@@ -63,6 +63,48 @@ addressed_few op.Bihz FromRa j le = past_word j le
 addressed_few op.Bihnz FromRa j le = past_word j le
 addressed_few _ _ j le = refl
 
+-- what isn't tested at byte 3 is tested nowhere, and what isn't read at byte 0 by an address is read nowhere
+tested_last : (o : Op) (source : Source) (j : ℕ) → tested o source 3 ≡ false → tested o source j ≡ false
+tested_last op.Brz FromRt j e = cc
+tested_last op.Brnz FromRt j e = cc
+tested_last op.Biz FromRt j e = cc
+tested_last op.Binz FromRt j e = cc
+tested_last op.Brhz FromRt j e = cc
+tested_last op.Brhnz FromRt j e = cc
+tested_last op.Bihz FromRt j e = cc
+tested_last op.Bihnz FromRt j e = cc
+tested_last op.Heq FromRa j e = cc
+tested_last op.Heq FromRb j e = cc
+tested_last op.Hgt FromRa j e = cc
+tested_last op.Hgt FromRb j e = cc
+tested_last op.Hlgt FromRa j e = cc
+tested_last op.Hlgt FromRb j e = cc
+tested_last op.Heqi FromRa j e = cc
+tested_last op.Hgti FromRa j e = cc
+tested_last op.Hlgti FromRa j e = cc
+tested_last _ _ j e = refl
+
+addressed_first : (o : Op) (source : Source) (j : ℕ) → addressed o source 0 ≡ false → addressed o source j ≡ false
+addressed_first op.Lqd FromRa j e = cc
+addressed_first op.Stqd FromRa j e = cc
+addressed_first op.Lqx FromRa j e = cc
+addressed_first op.Lqx FromRb j e = cc
+addressed_first op.Stqx FromRa j e = cc
+addressed_first op.Stqx FromRb j e = cc
+addressed_first op.Bi FromRa j e = cc
+addressed_first op.Bisl FromRa j e = cc
+addressed_first op.Biz FromRa j e = cc
+addressed_first op.Binz FromRa j e = cc
+addressed_first op.Bihz FromRa j e = cc
+addressed_first op.Bihnz FromRa j e = cc
+addressed_first _ _ j e = refl
+
+pub untested_known : (o : Op) (source : Source) (q : List SymByte) → tested o source 3 ≡ false → are_known (tested o source) q 16 ≡ true
+untested_known o source q e = known_where (tested o source) q 16 (λ j lt read. absurd (let no = tested_last o source j e in cc))
+
+pub unaddressed_known : (o : Op) (source : Source) (q : List SymByte) → addressed o source 0 ≡ false → are_known (addressed o source) q 16 ≡ true
+unaddressed_known o source q e = known_where (addressed o source) q 16 (λ j lt read. absurd (let no = addressed_first o source j e in cc))
+
 -- one byte more of a quad
 pub next_read : (f : ℕ → Bool) (q : SymQuad) (j : ℕ) (r b all : Bool) → j < 4 → all ≡ are_known f (quad_bytes q) j → r ≡ f j → b ≡ (if r then is_number (byte_in q j) else true)
     → (b && all) ≡ are_known f (quad_bytes q) (j + 1)

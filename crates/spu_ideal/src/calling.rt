@@ -4,8 +4,7 @@ ghost use Rattle.std.specs.Prelude.{◌≡◌, ◌+◌, ◌^◌, ◌<◌, ◌∷
 ghost use Rattle.spu_word.specs.declared.limits.TheConstants.{REGISTER_COUNT};
 ghost use Rattle.spu_lift.specs.Places.{taken_places};
 ghost use Rattle.spu_lift.specs.declared.program.Label.{Label};
-ghost use Rattle.spu_ideal.specs.Bytes.{unknown_quad};
-ghost use Rattle.spu_ideal.specs.Quads.{quad_bytes};
+ghost use Rattle.spu_ideal.specs.Bytes.{link_of, unknown_quad};
 ghost use Rattle.spu_ideal.specs.Machine.{branches, calls, calls_direct, calls_pointer, goes_indirect, jumps, opens, points, returns, word_label};
 ghost use Rattle.spu_ideal.specs.State.{forgets, forgotten_regs, goes, outside, put};
 ghost use Rattle.spu_ideal.specs.View.{goes_within, has_places, innermost as innermost_of, others, regs_of, state_of};
@@ -24,13 +23,13 @@ const LINK: u8 = 0;
 pub(crate) const STACK_POINTER: u8 = 1;
 
 /// A register becomes unknown.
-#[tactic(auto, using(crate::proofs::Going::register_set))]
+#[inline(always)]
 fn forget_register(regs: &mut [SymQuad], r: usize)
     requires { r < length regs.old }
     ensures value { regs_of regs.new ≡ put r unknown_quad (regs_of regs.old) }
     ensures len { length regs.new ≡ length regs.old }
 {
-    regs[r] = SymQuad::unknown();
+    regs[r].forget();
 }
 
 /// The loader's registers become unknown.
@@ -83,13 +82,14 @@ impl Ideal {
         let _ = self.calls.push(call);
     }
 
-    /// The link register has another quad.
-    fn put_link(&mut self, quad: SymQuad)
-        ensures exact { state_of self.new ≡ record (state_of self.old) { regs = put LINK (quad_bytes quad) (state_of self.old).regs } }
+    /// The link register has the link of a place.
+    #[inline(always)]
+    fn put_link(&mut self, f: u32, i: u32)
+        ensures exact { state_of self.new ≡ record (state_of self.old) { regs = put LINK (link_of f i) (state_of self.old).regs } }
         ensures count { self.new.steps ≡ self.old.steps }
         ensures room { self.new.most_calls ≡ self.old.most_calls }
     {
-        self.regs[LINK as usize] = quad;
+        self.regs[LINK as usize].put_link(f, i);
     }
 
     /// A call is opened, with its link in the link register.
@@ -100,15 +100,11 @@ impl Ideal {
         ensures count { self.new.steps ≡ self.old.steps }
         ensures room { self.new.most_calls ≡ self.old.most_calls }
     {
+        let f = self.f;
+        let i = self.i + 1;
         let pointer = self.quad(STACK_POINTER).first_word();
-        let link = SymQuad::link(self.f, self.i + 1);
-        let call = OpenCall {
-            f: self.f,
-            i: self.i + 1,
-            pointer,
-        };
-        self.push_call(call);
-        self.put_link(link);
+        self.push_call(OpenCall { f, i, pointer });
+        self.put_link(f, i);
     }
 
     /// The innermost open call is closed.

@@ -1,6 +1,6 @@
 //! What a computing instruction leaves in its register, of symbolic bytes.
 
-ghost use Rattle.std.specs.Prelude.{◌≡◌, ◌<◌, ◌%◌, ◌^◌, ◌==◌, ℕ, Bool, map, not, slice_index, true, ◌&&◌, ◌||◌, if◌then◌else◌};
+ghost use Rattle.std.specs.Prelude.{◌≡◌, ◌<◌, ◌%◌, ◌^◌, ◌==◌, ℕ, List, Bool, map, not, slice_index, true, ◌&&◌, ◌||◌, if◌then◌else◌, IfSome};
 ghost use Rattle.spu_isa.specs.Table.{row_of, signed};
 ghost use Rattle.spu_isa.specs.declared.operation.Kind.TheVariants.{Compute};
 ghost use Rattle.spu_exec.specs.Lanes.{immediate as immediate_of};
@@ -9,6 +9,7 @@ ghost use Rattle.spu_exec.specs.Reads.{names as names_of, reads as reads_of};
 ghost use Rattle.spu_exec.specs.declared.sources.Source.TheVariants.{FromRa, FromRb, FromRc, FromRt};
 ghost use Rattle.spu_exec.specs.Values.{value as value_of};
 ghost use Rattle.spu_reloc.specs.Fields.{kind_on as kind_on_of, relocated as relocated_of, stored as stored_of};
+ghost use Rattle.spu_lift.specs.declared.symbolic.SymByte.{SymByte};
 ghost use Rattle.spu_ideal.specs.Bytes.{is_number as is_number_of, number_of, sym_at};
 ghost use Rattle.spu_ideal.specs.Machine.{leaves};
 ghost use Rattle.spu_ideal.specs.Quads.{quad_bytes, is_plain};
@@ -27,7 +28,7 @@ ghost use Rattle.spu_ideal.specs.Results.{
 
 use crate::byte_moves::{is_number, moved};
 use crate::quads::{SymQuad, both, numbers};
-use spu_exec::{Source, apply, names, reads};
+use spu_exec::{Source, apply, apply_to, names, reads};
 use spu_isa::{Inst, Op};
 use spu_lift::{Label, Operand, SymByte, SymInst};
 use spu_reloc::RelocKind;
@@ -308,28 +309,72 @@ fn number_value(i: &Inst, a: &SymQuad, b: &SymQuad, c: &SymQuad, t: &SymQuad) ->
     let second = b.plain();
     let third = c.plain();
     let old = t.plain();
-    apply(i, &first, &second, &third, &old)
+    let mut quad = old;
+    apply_to(i, &first, &second, &third, &mut quad);
+    quad
 }
 
-/// What a computing instruction leaves, where its field stands for its immediate.
+/// What a computing instruction leaves, where its field stands for its immediate and each source that it reads is kept as numbers.
 #[inline(always)]
-fn plain_value(i: &Inst, a: &SymQuad, b: &SymQuad, c: &SymQuad, t: &SymQuad) -> SymQuad
+fn plain_numbers(i: &Inst, a: &SymQuad, b: &SymQuad, c: &SymQuad, t: &SymQuad) -> Option<Quad>
     requires { (row_of i.now.op).kind ≡ Compute }
-    ensures { quad_bytes result ≡ symbolic_value_of i.now (quad_bytes a.now) (quad_bytes b.now) (quad_bytes c.now) (quad_bytes t.now) }
+    ensures { IfSome result (λ quad. quad_bytes (Numbers quad) ≡ symbolic_value_of i.now (quad_bytes a.now) (quad_bytes b.now) (quad_bytes c.now) (quad_bytes t.now)) }
 {
     if is_ready(i.op, Source::FromRa, a)
         && is_ready(i.op, Source::FromRb, b)
         && is_ready(i.op, Source::FromRc, c)
         && is_ready(i.op, Source::FromRt, t)
     {
-        SymQuad::Numbers(number_value(i, a, b, c, t))
+        Some(number_value(i, a, b, c, t))
     } else {
-        SymQuad::of(symbolic_value(i, &a.bytes(), &b.bytes(), &c.bytes(), &t.bytes()))
+        None
+    }
+}
+
+/// What a computing instruction leaves, where its field stands for its immediate.
+fn plain_value(i: &Inst, a: &SymQuad, b: &SymQuad, c: &SymQuad, t: &SymQuad) -> SymQuad
+    requires { (row_of i.now.op).kind ≡ Compute }
+    ensures { quad_bytes result ≡ symbolic_value_of i.now (quad_bytes a.now) (quad_bytes b.now) (quad_bytes c.now) (quad_bytes t.now) }
+{
+    SymQuad::of(symbolic_value(i, &a.bytes(), &b.bytes(), &c.bytes(), &t.bytes()))
+}
+
+/// The instruction with the part of a number operand in its field, None where its operand is no number.
+#[inline(always)]
+fn with_number(x: &SymInst) -> Option<Inst>
+    ensures op { IfSome result (λ i. i.op ≡ x.now.inst.op) }
+    ensures same { (a b c t : List SymByte) → IfSome result (λ i. symbolic_value_of i a b c t ≡ leaves x.now.operand x.now.inst a b c t) }
+{
+    match x.operand {
+        Operand::Plain => Some(x.inst),
+        Operand::Number(n) => Some(relocated(&x.inst, n)),
+        Operand::Address(_) | Operand::Call(_) | Operand::Jump(_) | Operand::Branch(_) => None,
+    }
+}
+
+/// The numbers that a computing instruction leaves in its register, where each source that it reads is kept as numbers; a, b, c
+/// and t are the quads of ra, rb, rc and the old rt.
+#[tactic(auto, using(crate::proofs::Listed::some_numbers))]
+#[inline(always)]
+pub fn computed_numbers(
+    x: &SymInst,
+    a: &SymQuad,
+    b: &SymQuad,
+    c: &SymQuad,
+    t: &SymQuad,
+) -> Option<Quad>
+    requires { (row_of x.now.inst.op).kind ≡ Compute }
+    ensures { IfSome result (λ quad. quad_bytes (Numbers quad) ≡ leaves x.now.operand x.now.inst (quad_bytes a.now) (quad_bytes b.now) (quad_bytes c.now) (quad_bytes t.now)) }
+{
+    match with_number(x) {
+        Some(i) => plain_numbers(&i, a, b, c, t),
+        None => None,
     }
 }
 
 /// What a computing instruction leaves in its register; a, b, c and t are the quads of ra, rb, rc and the old rt.
-#[inline(always)]
+#[tactic(auto, using(crate::proofs::Listed::unknown_whole))]
+#[inline(never)]
 pub fn computed(x: &SymInst, a: &SymQuad, b: &SymQuad, c: &SymQuad, t: &SymQuad) -> SymQuad
     requires { (row_of x.now.inst.op).kind ≡ Compute }
     ensures { quad_bytes result ≡ leaves x.now.operand x.now.inst (quad_bytes a.now) (quad_bytes b.now) (quad_bytes c.now) (quad_bytes t.now) }
@@ -345,6 +390,6 @@ pub fn computed(x: &SymInst, a: &SymQuad, b: &SymQuad, c: &SymQuad, t: &SymQuad)
             &c.bytes(),
             &t.bytes(),
         )),
-        Operand::Call(_) | Operand::Jump(_) | Operand::Branch(_) => SymQuad::unknown(),
+        Operand::Call(_) | Operand::Jump(_) | Operand::Branch(_) => SymQuad::AllUnknown,
     }
 }

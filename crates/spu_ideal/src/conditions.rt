@@ -51,12 +51,12 @@ fn are_addressed(op: Op, source: Source, quad: &SymQuad) -> bool
 }
 
 /// Whether the bytes are numbers that a branch tests; t is the quad of rt.
-#[tactic(auto, using(crate::proofs::TestedBytes::plain_known))]
+#[tactic(auto, using(crate::proofs::TestedBytes::plain_known, crate::proofs::TestedBytes::untested_known))]
 #[inline(always)]
 fn can_test(i: &Inst, t: &SymQuad) -> bool
     ensures { result ≡ can_test_of i.now (quad_bytes t.now) }
 {
-    t.is_plain() || are_tested(i.op, Source::FromRt, t)
+    t.is_plain() || !is_tested(i.op, Source::FromRt, 3) || are_tested(i.op, Source::FromRt, t)
 }
 
 /// Whether a branch is taken, None where a byte that it tests isn't a number; t is the quad of rt.
@@ -110,16 +110,27 @@ fn is_relative(op: Op) -> bool
     }
 }
 
+/// Whether the bytes of a source are numbers that an address reads.
+#[tactic(auto, using(crate::proofs::TestedBytes::plain_known, crate::proofs::TestedBytes::unaddressed_known))]
+#[inline(always)]
+fn is_address_known(op: Op, source: Source, quad: &SymQuad) -> bool
+    ensures { result ≡ are_known (addressed op source) (quad_bytes quad.now) 16 }
+{
+    quad.is_plain() || !is_addressed(op, source, 0) || are_addressed(op, source, quad)
+}
+
 /// Whether the bytes are numbers that an address reads; a and b are the quads of ra and rb.
+#[inline(always)]
 fn can_address(i: &Inst, a: &SymQuad, b: &SymQuad) -> bool
     ensures { result ≡ can_address_of i.now (quad_bytes a.now) (quad_bytes b.now) }
 {
-    are_addressed(i.op, Source::FromRa, a) && are_addressed(i.op, Source::FromRb, b)
+    is_address_known(i.op, Source::FromRa, a) && is_address_known(i.op, Source::FromRb, b)
 }
 
 /// The address of a load or store whose field stands for its immediate, None where it isn't known; a and b are the quads of ra
 /// and rb.
 #[tactic(auto, using(crate::proofs::TestedBytes::same_place))]
+#[inline(always)]
 pub fn plain_address(i: &Inst, a: &SymQuad, b: &SymQuad) -> Option<u32>
     requires { ((row_of i.now.op).kind ≡ Load) ⊎ ((row_of i.now.op).kind ≡ Store) }
     ensures { result ≡ address_by (is_relative_of i.now.op) i.now (quad_bytes a.now) (quad_bytes b.now) }

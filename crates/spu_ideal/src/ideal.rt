@@ -13,7 +13,7 @@ use crate::quads::SymQuad;
 use crate::state::{OpenCall, Update};
 use spu_exec::Transfer;
 use spu_lift::{Prog, SymInst};
-use spu_word::Area;
+use spu_word::{Area, Quad};
 
 /// A run of a program whose code has no addresses: registers and store hold symbolic bytes. It is loaded with a program, takes that
 /// program and its depths again at each step, and takes no memory after the load.
@@ -68,6 +68,7 @@ pub(crate) fn instruction(p: &Prog, f: u32, i: u32) -> Option<SymInst>
 
 impl Ideal {
     ghost use Rattle.spu_ideal.specs.Quads.{quad_bytes};
+    ghost use Rattle.spu_ideal.specs.declared.quads.SymQuad.TheVariants.{Numbers};
     ghost use Rattle.spu_ideal.specs.State.{Sym, outside, ends, goes, sets};
     ghost use Rattle.spu_ideal.specs.View.{state_of};
 
@@ -130,7 +131,7 @@ impl Ideal {
     }
 
     /// The run goes on at the next place with another quad in a register.
-    #[inline(always)]
+    #[inline(never)]
     pub(crate) fn set(&mut self, p: &Prog, r: u8, quad: SymQuad)
         requires register { r < REGISTER_COUNT }
         requires near { self.old.i + 1 < 2 ^ 32 }
@@ -142,6 +143,26 @@ impl Ideal {
         match instruction(p, self.f, self.i + 1) {
             Some(_) => {
                 self.regs[r as usize] = quad;
+                self.go_on(self.f, self.i + 1);
+            }
+            None => self.leave(Reason::EndOfCode),
+        }
+    }
+
+    /// The run goes on at the next place with other numbers in a register.
+    #[tactic(auto, using(crate::proofs::Going::register_numbered))]
+    #[inline(always)]
+    pub(crate) fn set_numbers(&mut self, p: &Prog, r: u8, quad: Quad)
+        requires register { r < REGISTER_COUNT }
+        requires near { self.old.i + 1 < 2 ^ 32 }
+        requires count { self.old.steps + 1 < 2 ^ 64 }
+        ensures exact { state_of self.new ≡ sets p.now r (quad_bytes (Numbers quad)) (state_of self.old) }
+        ensures count { self.new.steps ≡ self.old.steps + 1 }
+        ensures room { self.new.most_calls ≡ self.old.most_calls }
+    {
+        match instruction(p, self.f, self.i + 1) {
+            Some(_) => {
+                self.regs[r as usize].put_numbers(&quad);
                 self.go_on(self.f, self.i + 1);
             }
             None => self.leave(Reason::EndOfCode),

@@ -1,4 +1,4 @@
-//! Quads of symbolic bytes. Most are numbers alone, and are kept as such.
+//! Quads of symbolic bytes. Most are numbers alone, and are kept as such, as are links and quads of which nothing is known.
 
 ghost use Rattle.std.specs.Prelude.{◌≡◌, ◌<◌, ◌==◌, ◌&&◌, ℕ, List, Bool, map, slice_index, if◌then◌else◌};
 ghost use Rattle.std.specs.List.{list_all};
@@ -16,6 +16,7 @@ ghost use Rattle.spu_ideal.specs.Bytes.{
   unknown_quad,
 };
 ghost use Rattle.spu_ideal.specs.Machine.{label_of as label_of_bytes, word_label};
+ghost use Rattle.spu_ideal.specs.declared.quads.SymQuad.TheVariants.{Numbers, WholeLink, AllUnknown};
 ghost use Rattle.spu_ideal.specs.Quads.{byte_in, quad_bytes, is_plain as is_plain_of, plain_number};
 
 use crate::byte_moves::{first_word, is_number, is_part, number_or_zero};
@@ -27,6 +28,10 @@ use spu_word::{Quad, word};
 pub enum SymQuad {
     /// Numbers alone.
     Numbers(Quad),
+    /// The link of a place, by its function and the index of its word.
+    WholeLink(u32, u32),
+    /// Sixteen bytes of which nothing is known.
+    AllUnknown,
     /// Bytes that need not be numbers.
     Mixed([SymByte; 16]),
 }
@@ -40,6 +45,25 @@ fn symbolic(quad: &Quad) -> [SymByte; 16]
         bytes[k] = SymByte::Num(quad.0[k]);
     }
     bytes
+}
+
+/// The bytes of the link of a place.
+#[tactic(auto, using(crate::proofs::Listed::filled))]
+fn link_bytes(f: u32, i: u32) -> [SymByte; 16]
+    ensures { result ≡ link_of f i }
+{
+    let mut bytes = [SymByte::Unknown; 16];
+    for k in 0..16 {
+        bytes[k] = SymByte::Part(Label::Link(f, i), k as u8);
+    }
+    bytes
+}
+
+/// Sixteen bytes of which nothing is known.
+fn unknown_bytes() -> [SymByte; 16]
+    ensures { result ≡ unknown_quad }
+{
+    [SymByte::Unknown; 16]
 }
 
 /// The same bytes.
@@ -168,6 +192,16 @@ fn put_byte(bytes: &mut [SymByte; 16], k: usize, v: u8)
     bytes[k] = SymByte::Num(v);
 }
 
+/// The quad of these bytes with a number at a place.
+fn with_number(bytes: [SymByte; 16], k: usize, v: u8) -> SymQuad
+    requires { k < QUAD_SIZE }
+    ensures { (j : ℕ) → byte_in result j ≡ (if j == k then Num v else sym_at bytes j) }
+{
+    let mut bytes = bytes;
+    put_byte(&mut bytes, k, v);
+    SymQuad::Mixed(bytes)
+}
+
 impl SymQuad {
     /// The quad of these bytes.
     #[tactic(auto, using(crate::proofs::Listed::numbers_whole, crate::proofs::Listed::bytes_whole))]
@@ -181,23 +215,91 @@ impl SymQuad {
         }
     }
 
-    /// The link of a place.
-    pub fn link(f: u32, i: u32) -> SymQuad
-        ensures { quad_bytes result ≡ link_of f i }
+    /// Another quad takes its place.
+    #[inline(never)]
+    fn replace(&mut self, other: &SymQuad)
+        ensures { self.new ≡ other.now }
     {
-        let mut bytes = [SymByte::Unknown; 16];
-        for k in 0..16 {
-            bytes[k] = SymByte::Part(Label::Link(f, i), k as u8);
-        }
-        SymQuad::Mixed(bytes)
+        *self = *other;
     }
 
-    /// The quad of which nothing is known.
-    #[tactic(auto, unfolding(crate::specs::Quads::quad_bytes))]
-    pub fn unknown() -> SymQuad
-        ensures { quad_bytes result ≡ unknown_quad }
+    /// Becomes these numbers, in place where it is kept as numbers.
+    #[inline(always)]
+    pub fn put_numbers(&mut self, quad: &Quad)
+        ensures { self.new ≡ Numbers quad.now }
     {
-        SymQuad::Mixed([SymByte::Unknown; 16])
+        match self {
+            SymQuad::Numbers(old) => *old = *quad,
+            SymQuad::WholeLink(_, _) | SymQuad::AllUnknown | SymQuad::Mixed(_) => {
+                self.become_numbers(quad)
+            }
+        }
+    }
+
+    /// Becomes these numbers.
+    #[inline(never)]
+    fn become_numbers(&mut self, quad: &Quad)
+        ensures { self.new ≡ Numbers quad.now }
+    {
+        *self = SymQuad::Numbers(*quad);
+    }
+
+    /// Becomes the link of a place.
+    #[inline(always)]
+    pub fn put_link(&mut self, f: u32, i: u32)
+        ensures { self.new ≡ WholeLink f i }
+    {
+        match self {
+            SymQuad::WholeLink(g, j) => {
+                *g = f;
+                *j = i;
+            }
+            SymQuad::Numbers(_) | SymQuad::AllUnknown | SymQuad::Mixed(_) => {
+                self.become_link(f, i)
+            }
+        }
+    }
+
+    /// Becomes a link.
+    #[inline(never)]
+    fn become_link(&mut self, f: u32, i: u32)
+        ensures { self.new ≡ WholeLink f i }
+    {
+        *self = SymQuad::WholeLink(f, i);
+    }
+
+    /// Nothing is known of it any more.
+    #[inline(always)]
+    pub fn forget(&mut self)
+        ensures { self.new ≡ AllUnknown }
+    {
+        match self {
+            SymQuad::AllUnknown => {}
+            SymQuad::Numbers(_) | SymQuad::WholeLink(_, _) | SymQuad::Mixed(_) => {
+                self.become_unknown()
+            }
+        }
+    }
+
+    /// Becomes a quad of which nothing is known.
+    #[inline(never)]
+    fn become_unknown(&mut self)
+        ensures { self.new ≡ AllUnknown }
+    {
+        *self = SymQuad::AllUnknown;
+    }
+
+    /// Becomes the same as another.
+    #[inline(always)]
+    pub fn copy(&mut self, other: &SymQuad)
+        ensures { self.new ≡ other.now }
+    {
+        match other {
+            SymQuad::Numbers(quad) => self.put_numbers(quad),
+            SymQuad::WholeLink(_, _) | SymQuad::AllUnknown | SymQuad::Mixed(_) => {
+                self.replace(other)
+            }
+        }
     }
 
     /// The bytes.
@@ -207,6 +309,8 @@ impl SymQuad {
     {
         match self {
             SymQuad::Numbers(quad) => symbolic(quad),
+            SymQuad::WholeLink(f, i) => link_bytes(*f, *i),
+            SymQuad::AllUnknown => unknown_bytes(),
             SymQuad::Mixed(bytes) => copied(bytes),
         }
     }
@@ -218,7 +322,7 @@ impl SymQuad {
     {
         match self {
             SymQuad::Numbers(_) => true,
-            SymQuad::Mixed(_) => false,
+            SymQuad::WholeLink(_, _) | SymQuad::AllUnknown | SymQuad::Mixed(_) => false,
         }
     }
 
@@ -230,7 +334,9 @@ impl SymQuad {
     {
         match self {
             SymQuad::Numbers(quad) => copied_numbers(quad),
-            SymQuad::Mixed(_) => copied_numbers(&Quad([0; 16])),
+            SymQuad::WholeLink(_, _) | SymQuad::AllUnknown | SymQuad::Mixed(_) => {
+                copied_numbers(&Quad([0; 16]))
+            }
         }
     }
 
@@ -240,6 +346,8 @@ impl SymQuad {
     {
         match self {
             SymQuad::Numbers(quad) => Some(word(quad, 0)),
+            SymQuad::WholeLink(_, _) => None,
+            SymQuad::AllUnknown => None,
             SymQuad::Mixed(bytes) => first_word(bytes),
         }
     }
@@ -251,6 +359,8 @@ impl SymQuad {
     {
         match self {
             SymQuad::Numbers(quad) => *quad,
+            SymQuad::WholeLink(_, _) => Quad([0; 16]),
+            SymQuad::AllUnknown => Quad([0; 16]),
             SymQuad::Mixed(bytes) => leading(bytes),
         }
     }
@@ -261,6 +371,8 @@ impl SymQuad {
     {
         match self {
             SymQuad::Numbers(_) => false,
+            SymQuad::WholeLink(g, j) => both(f == *g, i == *j),
+            SymQuad::AllUnknown => false,
             SymQuad::Mixed(bytes) => are_link(bytes, f, i),
         }
     }
@@ -271,6 +383,8 @@ impl SymQuad {
     {
         match self {
             SymQuad::Numbers(_) => None,
+            SymQuad::WholeLink(f, i) => Some(Label::Link(*f, *i)),
+            SymQuad::AllUnknown => None,
             SymQuad::Mixed(bytes) => first_label(bytes),
         }
     }
@@ -282,6 +396,8 @@ impl SymQuad {
     {
         match self {
             SymQuad::Numbers(quad) => number_at(quad, k),
+            SymQuad::WholeLink(f, i) => SymByte::Part(Label::Link(*f, *i), k as u8),
+            SymQuad::AllUnknown => SymByte::Unknown,
             SymQuad::Mixed(bytes) => byte_at(bytes, k),
         }
     }
@@ -289,10 +405,12 @@ impl SymQuad {
     /// Byte k becomes a number.
     pub fn put(&mut self, k: usize, v: u8)
         requires { k < QUAD_SIZE }
-        ensures { (j : ℕ) → byte_in self.new j ≡ (if j == k then Num v else byte_in self.old j) }
+        ensures { (j : ℕ) → j < QUAD_SIZE → byte_in self.new j ≡ (if j == k then Num v else byte_in self.old j) }
     {
         match self {
             SymQuad::Numbers(quad) => put_number(quad, k, v),
+            SymQuad::WholeLink(f, i) => *self = with_number(link_bytes(*f, *i), k, v),
+            SymQuad::AllUnknown => *self = with_number(unknown_bytes(), k, v),
             SymQuad::Mixed(bytes) => put_byte(bytes, k, v),
         }
     }

@@ -17,7 +17,8 @@ ghost use Rattle.spu_ideal.specs.Accesses.{
   stores,
 };
 ghost use Rattle.spu_ideal.specs.Quads.{quad_bytes};
-ghost use Rattle.spu_ideal.specs.View.{HasRegisters, IsQuadAddress, state_of, store_of};
+ghost use Rattle.spu_ideal.specs.State.{put};
+ghost use Rattle.spu_ideal.specs.View.{HasRegisters, IsQuadAddress, regs_of, state_of, store_of};
 
 use crate::conditions::{plain_address, quadword};
 use crate::ending::Reason;
@@ -28,6 +29,7 @@ use spu_lift::{Operand, Prog, SymInst};
 use spu_word::limits::{DATA_START, QUAD_SIZE, STACK_TOP, STORE_SIZE};
 
 /// Whether so many bytes from an address on lie in the data.
+#[inline(always)]
 fn is_data(p: &Prog, at: u32, size: u32) -> bool
     ensures { result ≡ is_data_of p.now at size }
 {
@@ -47,24 +49,28 @@ fn is_stack(entry: Option<u32>, frame: u32, at: u32, size: u32) -> bool
     }
 }
 
-/// The quad at an address.
-fn quad_at(store: &[SymQuad], at: u32) -> SymQuad
+/// The quad at an address becomes that of a register.
+#[inline(always)]
+fn load_quad(regs: &mut [SymQuad], r: usize, store: &[SymQuad], at: u32)
+    requires register { r < length regs.old }
     requires address { IsQuadAddress at }
     requires full { length store.now ≡ STORE_SIZE / QUAD_SIZE }
-    ensures { quad_bytes result ≡ loaded at (store_of store.now) }
+    ensures value { regs_of regs.new ≡ put r (loaded at (store_of store.now)) (regs_of regs.old) }
+    ensures len { length regs.new ≡ length regs.old }
 {
-    store[(at / QUAD_SIZE) as usize]
+    regs[r].copy(&store[(at / QUAD_SIZE) as usize]);
 }
 
 /// Puts a quad at an address.
-#[tactic(auto, using(crate::proofs::Going::quad_saved))]
-fn put_quad(store: &mut [SymQuad], at: u32, quad: SymQuad)
+#[tactic(auto, using(crate::proofs::Going::quad_copied))]
+#[inline(always)]
+fn put_quad(store: &mut [SymQuad], at: u32, quad: &SymQuad)
     requires address { IsQuadAddress at }
     requires full { length store.old ≡ STORE_SIZE / QUAD_SIZE }
-    ensures value { store_of store.new ≡ saved at (quad_bytes quad) (store_of store.old) }
+    ensures value { store_of store.new ≡ saved at (quad_bytes quad.now) (store_of store.old) }
     ensures len { length store.new ≡ length store.old }
 {
-    store[(at / QUAD_SIZE) as usize] = quad;
+    store[(at / QUAD_SIZE) as usize].copy(quad);
 }
 
 impl Ideal {
@@ -112,8 +118,13 @@ impl Ideal {
         ensures room { self.new.most_calls ≡ self.old.most_calls }
     {
         if self.is_allowed(p, d, at, QUAD_SIZE) {
-            let quad = quad_at(&self.store, at);
-            self.set(p, r, quad);
+            match instruction(p, self.f, self.i + 1) {
+                Some(_) => {
+                    load_quad(&mut self.regs, r as usize, &self.store, at);
+                    self.go_on(self.f, self.i + 1);
+                }
+                None => self.leave(Reason::EndOfCode),
+            }
         } else {
             self.leave(Reason::Store);
         }
@@ -150,8 +161,7 @@ impl Ideal {
         if self.is_allowed(p, d, at, QUAD_SIZE) {
             match instruction(p, self.f, self.i + 1) {
                 Some(_) => {
-                    let quad = self.regs[r as usize];
-                    put_quad(&mut self.store, at, quad);
+                    put_quad(&mut self.store, at, &self.regs[r as usize]);
                     self.go_on(self.f, self.i + 1);
                 }
                 None => self.leave(Reason::EndOfCode),

@@ -11,7 +11,7 @@ ghost use Rattle.spu_ideal.specs.Ends.{end_of, tick_of};
 ghost use Rattle.spu_ideal.specs.Machine.{acts, computes, goes_indirect, halts_where, obeys, run, start, step, where_taken, branches};
 ghost use Rattle.spu_ideal.specs.View.{HasRegisters, IsStateOf, StaysHigh, state_of, steps};
 
-use crate::computing::computed;
+use crate::computing::{computed, computed_numbers};
 use crate::conditions::{branch_test, halt_test};
 use crate::ending::{IdealEnd, Reason};
 use crate::ideal::{Ideal, instruction};
@@ -26,9 +26,9 @@ pub fn steps_are_the_run()
 {}
 
 impl Ideal {
-    /// Does what a computing instruction says.
-    #[inline(always)]
-    fn compute(&mut self, p: &Prog, x: &SymInst)
+    /// Does what a computing instruction says, whatever its sources hold.
+    #[inline(never)]
+    fn compute_bytes(&mut self, p: &Prog, x: &SymInst)
         requires kind { kind_of x.now ≡ kind.Compute }
         requires fields { HasRegisters x.now.inst }
         requires near { self.old.i + 1 < 2 ^ 32 }
@@ -45,6 +45,30 @@ impl Ideal {
             self.quad(x.inst.rt),
         );
         self.set(p, x.inst.rt, quad);
+    }
+
+    /// Does what a computing instruction says. Where it reads numbers alone it computes with these.
+    #[inline(always)]
+    fn compute(&mut self, p: &Prog, x: &SymInst)
+        requires kind { kind_of x.now ≡ kind.Compute }
+        requires fields { HasRegisters x.now.inst }
+        requires near { self.old.i + 1 < 2 ^ 32 }
+        requires count { self.old.steps + 1 < 2 ^ 64 }
+        ensures exact { state_of self.new ≡ computes p.now x.now (state_of self.old) }
+        ensures count { self.new.steps ≡ self.old.steps + 1 }
+        ensures room { self.new.most_calls ≡ self.old.most_calls }
+    {
+        let numbers = computed_numbers(
+            x,
+            self.quad(x.inst.ra),
+            self.quad(x.inst.rb),
+            self.quad(x.inst.rc),
+            self.quad(x.inst.rt),
+        );
+        match numbers {
+            Some(quad) => self.set_numbers(p, x.inst.rt, quad),
+            None => self.compute_bytes(p, x),
+        }
     }
 
     /// Branches where the test of a branch is met.

@@ -8,6 +8,8 @@ mod links;
 #[cfg(test)]
 mod loader;
 #[cfg(test)]
+mod symbolic;
+#[cfg(test)]
 mod texts;
 #[cfg(test)]
 mod tours;

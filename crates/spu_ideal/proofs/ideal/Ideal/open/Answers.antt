@@ -1,7 +1,6 @@
-use Rattle.std.proofs.Common.{ℕ, ◌+◌, List, ◌∷◌, Option, ap, ap₂, ◌∙◌}
+use Rattle.std.proofs.Common.{ℕ, ◌+◌, List, ◌∷◌, Option, ap, ◌∙◌}
 use Rattle.spu_lift.specs.declared.symbolic.SymByte.{SymByte}
-use Rattle.spu_ideal.specs.Bytes.{known_word}
-use Rattle.spu_ideal.specs.Quads.{quad_bytes}
+use Rattle.spu_ideal.specs.Bytes.{known_word, link_of}
 use Rattle.spu_ideal.specs.State.{Sym, put}
 use Rattle.spu_ideal.specs.View.{state_of}
 use Rattle.spu_ideal.proofs.ideal.Ideal.open.Goals as goal
@@ -9,8 +8,8 @@ use Rattle.spu_ideal.proofs.ideal.Ideal.open.Goals as goal
 pub returns-clause-exact : goal.returns-clause-exact
 returns-clause-exact c =
     c.put_link.ensures.exact
-    ∙ ap (λ (s : Sym). record s { regs = put 0 (quad_bytes c.link-link.result) s.regs }) c.push_call.ensures.exact
-    ∙ ap₂ (λ (q : List SymByte) (o : Option ℕ). record (state_of c.args.self.now) {
-      regs = put 0 q (state_of c.args.self.now).regs;
+    ∙ ap (λ (s : Sym). record s { regs = put 0 (link_of c.args.self.now.f (c.args.self.now.i + 1)) s.regs }) c.push_call.ensures.exact
+    ∙ ap (λ (o : Option ℕ). record (state_of c.args.self.now) {
+      regs = put 0 (link_of c.args.self.now.f (c.args.self.now.i + 1)) (state_of c.args.self.now).regs;
       calls = record { f = c.args.self.now.f; i = c.args.self.now.i + 1; pointer = o } ∷ (state_of c.args.self.now).calls;
-    }) c.link-link.ensures (c.first_word-pointer.ensures ∙ ap (λ (q : List SymByte). known_word q 0) c.quad.ensures)
+    }) (c.first_word-pointer.ensures ∙ ap (λ (q : List SymByte). known_word q 0) c.quad.ensures)
