@@ -1,14 +1,14 @@
 -- The words of a command line: first a command, and then its operands and options in any order. They are read from left to
 -- right, each by those before it; the fault is at the first that is faulty, counted from 1, or behind the last where words are
 -- missing.
-use Rattle.std.specs.Prelude.{◌≡◌, ℕ, ◌+◌, ◌==◌, Bool, true, false, List, [], ◌∷◌, ◌++◌, length, codes, take, nat_lt, not, ◌&&◌, ◌||◌, if◌then◌else◌, Option, Some, None, Result, Ok, Err, slice_get, option_map, unwrap_or, map}
+use Rattle.std.specs.Prelude.{◌≡◌, ℕ, ◌+◌, ◌==◌, Bool, true, false, List, [], ◌∷◌, ◌++◌, length, codes, take, nat_lt, not, ◌&&◌, ◌||◌, if◌then◌else◌, Option, Some, None, Result, Ok, Err, slice_get, option_map, is_some, unwrap_or, map}
 use Rattle.std.specs.Str.{bytes_eq}
 use Rattle.spu_word.specs.declared.limits.TheConstants.{MAX_OBJECTS}
 use Rattle.spu_image.specs.declared.outcome.LinkOptions.{LinkOptions}
 use Rattle.std.specs.Borrow.{Bor}
 use Rattle.spu_io.specs.NameTable.{pointed_to}
 use Rattle.spu_tool.specs.declared.command.Command.{Command}
-use Rattle.spu_tool.specs.declared.command.Command.TheVariants.{Assemble, Link, Map, Embed, Run, Check}
+use Rattle.spu_tool.specs.declared.command.Command.TheVariants.{Assemble, Link, Map, Embed, Run, Check, Generate}
 use Rattle.spu_tool.specs.declared.options.OptionName.{OptionName}
 use Rattle.spu_tool.specs.declared.options.OptionName.TheVariants.{Steps, Mail, Area, Image, Stack, Entry, StackSyms, Overlay, Root, Buffers, Largest}
 use Rattle.spu_tool.specs.declared.options.Options.{Options}
@@ -17,6 +17,8 @@ use Rattle.spu_tool.specs.declared.arguments.ParseFault.TheVariants as faults
 use Rattle.spu_tool.specs.declared.request.Request.{Request}
 use Rattle.spu_tool.specs.declared.request.Action.{Action}
 use Rattle.spu_tool.specs.declared.request.Action.TheVariants as action
+use Rattle.spu_gen.specs.declared.lines.TheConstants.{MAX_SENDERS}
+use Rattle.spu_tool.specs.Numbers.{if_least, number_within, word_of}
 use Rattle.spu_tool.specs.Cutting.{cut_at}
 use Rattle.spu_tool.specs.Areas.{AreaParts, area_word, has_room}
 use Rattle.spu_tool.specs.Names.{is_symbol_name}
@@ -32,6 +34,7 @@ command_named word =
     if bytes_eq word (codes "embed") then Some Embed else
     if bytes_eq word (codes "run") then Some Run else
     if bytes_eq word (codes "check") then Some Check else
+    if bytes_eq word (codes "gen") then Some Generate else
     None
 
 -- how many operands each has at most
@@ -42,6 +45,7 @@ most_operands Map = 1
 most_operands Embed = 3
 most_operands Run = 1
 most_operands Check = MAX_OBJECTS
+most_operands Generate = 2
 
 -- which options each has
 abbrev pub has_option : Command → OptionName → Bool
@@ -67,8 +71,14 @@ has_option Check Steps = true
 has_option Check Mail = true
 has_option Check Area = true
 has_option Check _ = false
+has_option Generate name = false
 
--- which words may be the operand of an index, counted from 0: the first of `embed` names a symbol
+-- how many functions a workload has beside `main`
+abbrev pub count_of : List ℕ → Option ℕ
+count_of text = if_least 1 (number_within MAX_SENDERS text)
+
+-- which words may be the operand of an index, counted from 0: the first of `embed` names a symbol, and those of `gen` are a seed and
+-- a count
 abbrev pub is_operand : Command → ℕ → List ℕ → Bool
 is_operand Assemble index word = true
 is_operand Link index word = true
@@ -76,6 +86,7 @@ is_operand Map index word = true
 is_operand Embed index word = not (index == 0) || is_symbol_name word
 is_operand Run index word = true
 is_operand Check index word = true
+is_operand Generate index word = is_some (if index == 0 then word_of word else count_of word)
 
 -- ---- the words after a command
 
@@ -169,8 +180,8 @@ texts_of names = map (λ n. n.now) names
 abbrev pub asked_of : Request → Asked
 asked_of r = record { inputs = texts_of r.inputs.items; output = pointed_to r.output; action = r.action }
 
--- the first two operands, or the first alone; None where they are missing
-abbrev pub of_two : Option (List ℕ) → Option (List ℕ) → (List ℕ → List ℕ → Asked) → Option Asked
+-- what is asked by two operands; None where they are missing
+abbrev pub of_two : {X : Type 0} → Option X → Option X → (X → X → Asked) → Option Asked
 of_two None second f = None
 of_two (Some first) None f = None
 of_two (Some first) (Some second) f = Some (f first second)
@@ -198,6 +209,13 @@ abbrev pub asked_read : List (List ℕ) → List (List ℕ) → Action → Optio
 asked_read [] files wanted = None
 asked_read (input ∷ inputs) files wanted = Some (record { inputs = (input ∷ inputs) ++ files; output = None; action = wanted })
 
+-- no file is read or written
+abbrev pub asked_generate : List (List ℕ) → Option Asked
+asked_generate [] = None
+asked_generate (seed ∷ []) = None
+asked_generate (seed ∷ count ∷ rest) =
+    of_two (word_of seed) (count_of count) (λ s n. record { inputs = []; output = None; action = action.Generate s n })
+
 abbrev pub asked_by : Command → Given → Option Asked
 asked_by Assemble given = asked_assemble given.operands
 asked_by Link given = asked_link given.operands (link_options given.options)
@@ -205,6 +223,7 @@ asked_by Map given = asked_read given.operands [] action.Map
 asked_by Embed given = asked_embed given.operands
 asked_by Run given = asked_read given.operands given.files (action.Run (run_options given.options))
 asked_by Check given = asked_read given.operands given.files (action.Check (check_options given.options))
+asked_by Generate given = asked_generate given.operands
 
 -- where words are missing the fault is behind the last
 abbrev pub or_missing : Option Asked → ℕ → Result Asked ℕ

@@ -1,6 +1,6 @@
 -- What a command makes of the bytes of its files: a status, an output file where it has one, and a text.
-use Rattle.std.specs.Prelude.{◌≡◌, ◌≢◌, ℕ, ◌+◌, ◌-◌, ◌*◌, ◌<◌, ◌≤◌, ◌/◌, ◌%◌, ◌++◌, ◌∷◌, [], ◌⊎◌, ◌↔◌, Bool, true, false, nat_lt, ◌==◌, if◌then◌else◌, List, length, take, drop, map, All, slice_index_or, Option, Some, None, unwrap_or, Result, Ok, Err, codes}
-use Rattle.std.specs.List.{flat_map}
+use Rattle.std.specs.Prelude.{◌≡◌, ◌≢◌, ℕ, ◌+◌, ◌-◌, ◌*◌, ◌<◌, ◌≤◌, ◌/◌, ◌%◌, ◌^◌, ◌++◌, ◌∷◌, [], ◌⊎◌, ◌↔◌, Bool, true, false, nat_lt, ◌==◌, if◌then◌else◌, List, length, take, drop, map, All, slice_index_or, Option, Some, None, unwrap_or, Result, Ok, Err, codes}
+use Rattle.std.specs.List.{flat_map, sum}
 use Rattle.std.specs.Fmt.{decimal}
 use Rattle.std.specs.Str.{bytes_eq}
 use Rattle.spu_word.specs.Bytes.{be_half_digits}
@@ -20,6 +20,7 @@ use Rattle.spu_image.specs.declared.outcome.LinkOptions.{LinkOptions}
 use Rattle.spu_image.specs.Linking.{IsJudgedFrom, IsJudgeFault, IsLinked, IsLinkFault}
 use Rattle.spu_map.specs.Stacks.{stack_text}
 use Rattle.spu_plan.specs.declared.plan.Plan.{Plan}
+use Rattle.spu_plan.specs.declared.input.Mode.TheVariants.{Always}
 use Rattle.spu_graph.specs.Known.{need_of}
 use Rattle.spu_lift.specs.declared.program.Prog.{Prog}
 use Rattle.spu_frame.specs.Found.{frame_at}
@@ -62,7 +63,10 @@ use Rattle.spu_tool.specs.declared.options.CheckOptions.{CheckOptions}
 use Rattle.spu_tool.specs.declared.options.RunOptions.{RunOptions}
 use Rattle.spu_tool.specs.declared.request.Action.{Action}
 use Rattle.spu_tool.specs.declared.request.Action.TheVariants as action
-use Rattle.spu_tool.specs.Options.{AreCheckSound, AreLinkSound, AreSound}
+use Rattle.spu_gen.specs.declared.lines.TheConstants.{MAX_SENDERS}
+use Rattle.spu_gen.specs.Workloads.{IsWorkload}
+use Rattle.spu_tool.specs.declared.options.TheConstants.{DEFAULT_STEPS}
+use Rattle.spu_tool.specs.Options.{AreCheckSound, AreLinkSound, AreSound, link_options, no_options, run_options}
 use Rattle.spu_tool.specs.declared.status.Status.{Status}
 use Rattle.spu_tool.specs.declared.status.Status.TheVariants as status
 
@@ -383,6 +387,40 @@ pub record EmbedsNot (handle bytes : List ℕ) (m : Made) : Type 0 where
 abbrev pub MakesEmbed : List ℕ → List ℕ → List ℕ → Made → Type 0
 MakesEmbed handle name bytes m = EmbedsTo handle bytes m ⊎ (EmbedsNot handle bytes m ⊎ ReadsNot (exec_fault bytes) name m)
 
+-- ---- gen
+
+-- a workload is linked with overlays always, and its image run with nothing given; all else is as where no option says otherwise
+abbrev pub gen_link : LinkOptions
+gen_link = link_options (record no_options { overlay = Some Always })
+
+abbrev pub gen_inputs : Inputs
+gen_inputs = inputs_of (run_options no_options) []
+
+-- its functions beside the start code, its regions and the size of their buffer, the stack that the functions need, how many words
+-- it sent, and their sum
+abbrev pub gen_text : Linked → ℕ → List ℕ → List ℕ
+gen_text l need output =
+    count_line (codes "functions") (length l.prog.functions - 1) ++ count_line (codes "regions") l.plan.regions
+    ++ count_line (codes "buffer") l.plan.buffer ++ count_line (codes "stack") need ++ count_line (codes "words") (length output)
+    ++ count_line (codes "sum") (sum output % 2 ^ 32)
+
+-- its image is run from its start
+pub record RunsImage (l : Linked) (need : ℕ) (m : Made) : Type 0 where
+  pub fits : load_fault l.exec l.file gen_inputs ≡ None
+  pub is : let s = steps DEFAULT_STEPS (start l.exec l.file gen_inputs) in m ≡ made (status_of (end_of s.ended)) None (gen_text l need s.output)
+
+-- the object is linked, and its image is run or can't be loaded
+pub record LinksAndRuns (object : Object) (m : Made) : Type 0 where
+  pub linked : Linked
+  pub link : IsLinked (object ∷ []) gen_link linked
+  pub made : RunsImage linked link.image.need m ⊎ LoadsNot (load_fault linked.exec linked.file gen_inputs) m
+
+-- the workload of a seed and a count is linked and run, or has a fault
+pub record MakesGen (seed count : ℕ) (m : Made) : Type 0 where
+  pub object : Object
+  pub workload : IsWorkload seed count object
+  pub made : LinksAndRuns object m ⊎ LinksNot (IsLinkFault (object ∷ []) gen_link) [] m
+
 -- a run makes the same of an executable and of an object that embeds it
 abbrev pub AreRunAlike : Type 0
 AreRunAlike =
@@ -403,6 +441,7 @@ MakesBy (action.Run options) names files = MakesRunOf options (first names) (fir
 MakesBy (action.Check options) names files =
     let objects = length files - length options.run.places in
     MakesCheck options (take objects names) (take objects files) (drop objects files)
+MakesBy (action.Generate seed count) names files = MakesGen seed count
 
 -- how many files an action has, and what its options keep
 abbrev pub IsComplete : Action → ℕ → Type 0
@@ -412,3 +451,4 @@ IsComplete action.Map files = 1 ≤ files
 IsComplete (action.Embed handle) files = (1 ≤ files) × IsName handle
 IsComplete (action.Run options) files = (files ≡ 1 + length options.places) × AreSound options
 IsComplete (action.Check options) files = (length options.run.places ≤ files) × (files ≤ MAX_OBJECTS + length options.run.places) × AreCheckSound options
+IsComplete (action.Generate seed count) files = (1 ≤ count) × (count ≤ MAX_SENDERS)

@@ -25,6 +25,11 @@ bounded most (Some n) = if nat_le n most then Some n else None
 abbrev pub number_within : ℕ → List ℕ → Option ℕ
 number_within most text = bounded most (number_of text)
 
+-- a number that is at least the bound
+abbrev pub if_least : ℕ → Option ℕ → Option ℕ
+if_least least None = None
+if_least least (Some n) = if nat_le least n then Some n else None
+
 -- a number of 32 bits
 abbrev pub word_of : List ℕ → Option ℕ
 word_of text = number_within MAX_WORD text

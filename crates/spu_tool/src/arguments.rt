@@ -3,12 +3,13 @@
 ghost use Rattle.std.specs.Prelude.{◌≡◌, [], ◌∷◌, ◌++◌, map, string_bytes, length, IfOk, IfErr};
 ghost use Rattle.std.specs.Option.{option_map};
 ghost use Rattle.spu_tool.specs.Options.{IsTaken};
-ghost use Rattle.spu_tool.specs.Arguments.{asked, asked_of, asked_from, asked_assemble, asked_link, asked_embed, asked_read, texts_of, text_in, read_after, nothing_given, is_option, parts_in, IsFaultOf};
+ghost use Rattle.spu_tool.specs.Arguments.{asked, asked_of, asked_from, asked_assemble, asked_link, asked_embed, asked_generate, asked_read, texts_of, text_in, read_after, nothing_given, is_option, parts_in, IsFaultOf};
 ghost use Rattle.spu_tool.specs.declared.arguments.ParseFault.TheVariants as faults;
 
 use crate::areas::{AreaWord, area_word};
 use crate::command::Command;
 use crate::cutting::cut_at;
+use crate::numbers::{count_of, word_of};
 use crate::options::{OptionName, Options};
 use crate::request::{Action, Request};
 use spu_image::LinkOptions;
@@ -291,6 +292,23 @@ fn reading_request<'a>(
     }
 }
 
+// The request of `gen SEED K`.
+fn generate_request<'a>(alloc: Global, operands: &[&'a str]) -> Option<Request<'a>>
+    ensures { option_map asked_of result ≡ asked_generate (texts_of operands.now) }
+{
+    match operands {
+        [seed, count, ..] => match (word_of(seed.as_bytes()), count_of(count.as_bytes())) {
+            (Some(seed), Some(count)) => Some(Request {
+                inputs: Vec::new(alloc),
+                output: None,
+                action: Action::Generate { seed, count },
+            }),
+            _ => None,
+        },
+        _ => None,
+    }
+}
+
 impl<'a> Arguments<'a> {
     ghost use Rattle.std.specs.Option.{option_map};
     ghost use Rattle.spu_tool.specs.Arguments.{asked_of, asked_by};
@@ -325,6 +343,7 @@ impl<'a> Arguments<'a> {
                 files.as_slice(),
                 Action::Check(options.into_check(alloc)?),
             ),
+            Command::Generate => Ok(generate_request(alloc, operands.as_slice())),
         }
     }
 }
@@ -464,6 +483,15 @@ mod tests {
             ("check --entry= a", 2),
             ("check a --mail=", 3),
             ("check a --area=n:0:f b --area=n:16:g", 5),
+            ("gen", 2),
+            ("gen 1", 3),
+            ("gen x 3", 2),
+            ("gen -1 3", 2),
+            ("gen 4294967296 3", 2),
+            ("gen 1 0", 3),
+            ("gen 1 401", 3),
+            ("gen 1 3 4", 4),
+            ("gen 1 --steps=5 3", 3),
         ];
         for (line, fault) in cases {
             let words = words_of(rt.alloc(), line)?;
@@ -498,7 +526,7 @@ mod tests {
                 Some((options.mode, rooted, options.buffers, options.largest))
             }
             Action::Assemble | Action::Map | Action::Embed(_) => None,
-            Action::Run(_) | Action::Check(_) => None,
+            Action::Run(_) | Action::Check(_) | Action::Generate { .. } => None,
         }
     }
 
@@ -529,6 +557,7 @@ mod tests {
             Action::Run(options) => Some(options.steps),
             Action::Check(options) => Some(options.run.steps),
             Action::Assemble | Action::Link(_) | Action::Map | Action::Embed(_) => None,
+            Action::Generate { .. } => None,
         }
     }
 
@@ -560,6 +589,7 @@ mod tests {
             Action::Run(options) => Some(options.places.len()),
             Action::Check(options) => Some(options.run.places.len()),
             Action::Assemble | Action::Link(_) | Action::Map | Action::Embed(_) => None,
+            Action::Generate { .. } => None,
         }
     }
 

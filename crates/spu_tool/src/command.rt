@@ -3,6 +3,7 @@
 ghost use Rattle.std.specs.Prelude.{◌≡◌, ℕ};
 
 use crate::names::is_symbol_name;
+use crate::numbers::{count_of, word_of};
 use crate::options::OptionName;
 use spu_word::limits::MAX_OBJECTS;
 
@@ -21,6 +22,8 @@ pub enum Command {
     Run,
     /// `check IN..`
     Check,
+    /// `gen SEED K`
+    Generate,
 }
 
 impl Command {
@@ -37,6 +40,7 @@ impl Command {
             b"embed" => Some(Command::Embed),
             b"run" => Some(Command::Run),
             b"check" => Some(Command::Check),
+            b"gen" => Some(Command::Generate),
             _ => None,
         }
     }
@@ -52,6 +56,7 @@ impl Command {
             Command::Embed => 3,
             Command::Run => 1,
             Command::Check => MAX_OBJECTS as usize,
+            Command::Generate => 2,
         }
     }
 
@@ -75,7 +80,7 @@ impl Command {
             (Command::Check, OptionName::Image | OptionName::StackSyms) => false,
             (Command::Check, OptionName::Overlay | OptionName::Root) => false,
             (Command::Check, OptionName::Buffers | OptionName::Largest) => false,
-            (Command::Assemble | Command::Map | Command::Embed, _) => false,
+            (Command::Assemble | Command::Map | Command::Embed | Command::Generate, _) => false,
         }
     }
 
@@ -87,6 +92,8 @@ impl Command {
             Command::Assemble | Command::Link | Command::Map | Command::Run | Command::Check =>
                 true,
             Command::Embed => index != 0 || is_symbol_name(word),
+            Command::Generate if index == 0 => word_of(word).is_some(),
+            Command::Generate => count_of(word).is_some(),
         }
     }
 }

@@ -1,4 +1,5 @@
-//! The tool: texts are assembled, objects are linked and checked, and executables are mapped, embedded and run.
+//! The tool: texts are assembled, objects are linked and checked, executables are mapped, embedded and run, and workloads are
+//! generated.
 #![tactic(auto)]
 
 mod areas;
@@ -12,6 +13,9 @@ mod concluding;
 mod cutting;
 mod embed_command;
 mod fault_lines;
+mod gen_command;
+#[cfg(test)]
+mod gen_tests;
 mod laws;
 mod link_command;
 mod link_lines;

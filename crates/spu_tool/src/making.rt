@@ -7,6 +7,7 @@ ghost use Rattle.spu_tool.specs.Makes.{MakesBy, IsComplete, first};
 use crate::assemble_command::assemble_command;
 use crate::check_command::check_command;
 use crate::embed_command::{embed_command, run_any};
+use crate::gen_command::gen_command;
 use crate::link_command::link_command;
 use crate::made::Made;
 use crate::map_command::map_command;
@@ -98,5 +99,6 @@ pub fn make(
                 areas_files,
             )
         }
+        Action::Generate { seed, count } => gen_command(alloc, seed, count),
     }
 }

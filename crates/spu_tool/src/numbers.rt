@@ -1,7 +1,10 @@
 //! Numbers on a command line.
 
 ghost use Rattle.std.specs.Prelude.{◌≡◌, ◌≤◌, drop};
+ghost use Rattle.spu_tool.specs.Arguments.{count_of};
 ghost use Rattle.spu_tool.specs.Numbers.{digits_number, with_digit, bounded, number_within, word_of};
+
+use spu_gen::MAX_SENDERS;
 
 /// The greatest number of 32 bits: the most steps of a run, and the greatest word of mail.
 pub const MAX_WORD: u64 = 0xffff_ffff;
@@ -57,5 +60,15 @@ pub fn word_of(text: &[u8]) -> Option<u32>
     match number_within(text, MAX_WORD) {
         Some(word) => Some(word as u32),
         None => None,
+    }
+}
+
+/// How many functions a workload has beside `main`, 1 to 400, that a text writes.
+pub fn count_of(text: &[u8]) -> Option<u32>
+    ensures { result ≡ count_of text.now }
+{
+    match number_within(text, MAX_SENDERS as u64) {
+        Some(count) if count >= 1 => Some(count as u32),
+        Some(_) | None => None,
     }
 }

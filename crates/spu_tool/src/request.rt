@@ -19,6 +19,11 @@ pub enum Action {
     Run(RunOptions),
     /// What the symbolic run of objects shows.
     Check(CheckOptions),
+    /// What the image of a workload of this seed, with so many functions beside `main`, shows.
+    Generate {
+        seed: u32,
+        count: u32,
+    },
 }
 
 /// What a command line asks for: the files that are read, in order, the file that is written, and what is made of them.

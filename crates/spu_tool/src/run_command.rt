@@ -35,7 +35,8 @@ pub fn end_line(alloc: Global, end: RunEnd) -> Result<Bytes, OutOfMemory>
     }
 }
 
-fn status_of(end: RunEnd) -> Status
+/// The status of a run that ended so, or that has made its steps.
+pub fn status_of(end: RunEnd) -> Status
     ensures { result ≡ status_of end }
 {
     match end {

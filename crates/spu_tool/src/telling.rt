@@ -8,7 +8,7 @@ use std::alloc::Global;
 use std::io;
 
 const USAGE: &str =
-    "asm IN OUT | link OUT IN.. [--stack=N] [--entry=NAME] [--stack-syms] [--overlay=auto|always|never] [--root=A,B] [--buffers=N] [--largest=B] | map IN | embed NAME IN OUT | run IN [--steps=N] [--mail=N,N] [--area=NAME:EA:FILE] [--image=EA] | check IN.. [--stack=N] [--entry=NAME] [--steps=N] [--mail=N,N] [--area=NAME:EA:FILE]";
+    "asm IN OUT | link OUT IN.. [--stack=N] [--entry=NAME] [--stack-syms] [--overlay=auto|always|never] [--root=A,B] [--buffers=N] [--largest=B] | map IN | embed NAME IN OUT | run IN [--steps=N] [--mail=N,N] [--area=NAME:EA:FILE] [--image=EA] | check IN.. [--stack=N] [--entry=NAME] [--steps=N] [--mail=N,N] [--area=NAME:EA:FILE] | gen SEED K";
 
 /// The words of a command, or of all.
 fn usage(words: &[String]) -> &'static str {
@@ -25,6 +25,7 @@ fn usage(words: &[String]) -> &'static str {
         Some(Command::Check) => {
             "check IN.. [--stack=N] [--entry=NAME] [--steps=N] [--mail=N,N] [--area=NAME:EA:FILE]"
         }
+        Some(Command::Generate) => "gen SEED K",
         None => USAGE,
     }
 }
