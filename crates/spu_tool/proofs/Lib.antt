@@ -10,3 +10,4 @@ pub mod Members
 pub mod Seeing
 pub mod Sound
 pub mod Splitting
+pub mod Workloads

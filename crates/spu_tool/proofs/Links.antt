@@ -22,7 +22,7 @@ use Rattle.spu_tool.specs.FaultLines.{elf_line}
 use Rattle.spu_tool.specs.LinkLines.{link_line}
 use Rattle.spu_tool.specs.Makes.{AreObjects, LinksTo, LinksNot, MakesLink, ReadsOrNot, entry_need, made, refused, summary}
 
-needed : (o : Option ℕ) (n : ℕ) → o ≡ Some n → unwrap_or o 0 ≡ n
+pub needed : (o : Option ℕ) (n : ℕ) → o ≡ Some n → unwrap_or o 0 ≡ n
 needed None n e = absurd (cc)
 needed (Some m) n e = cc
 

@@ -9,23 +9,24 @@ use borrow.Author.Tests.{eqb-true}
 use Rattle.std.proofs.lemmas.List.{length-append, length-map}
 use Rattle.std.proofs.lemmas.Map.Views.{Contains-from_any}
 use Rattle.spu_word.specs.declared.limits.TheConstants.{MAX_AREAS, MAX_MAIL, MAX_STACK_LIMIT, QUAD_SIZE}
+use Rattle.spu_gen.specs.declared.lines.TheConstants.{MAX_SENDERS}
 use Rattle.spu_plan.specs.declared.constants.TheConstants.{BUFFER_COUNTS, BUFFER_SIZES}
 use Rattle.spu_plan.specs.declared.input.Mode.{Mode}
 use Rattle.spu_tool.specs.declared.options.OptionName.{OptionName}
 use Rattle.spu_tool.specs.declared.options.OptionName.TheVariants.{Steps, Mail, Area, Image, Stack, Entry, StackSyms, Overlay, Root, Buffers, Largest}
 use Rattle.spu_tool.specs.declared.options.Options.{Options}
 use Rattle.spu_tool.specs.declared.command.Command.{Command}
-use Rattle.spu_tool.specs.declared.command.Command.TheVariants.{Assemble, Link, Map, Embed, Run, Check}
+use Rattle.spu_tool.specs.declared.command.Command.TheVariants.{Assemble, Link, Map, Embed, Run, Check, Generate}
 use Rattle.spu_tool.specs.declared.request.Action.{Action}
 use Rattle.spu_tool.specs.declared.request.Action.TheVariants as action
-use Rattle.spu_tool.specs.Numbers.{bounded, number_of, number_within, word_of}
+use Rattle.spu_tool.specs.Numbers.{bounded, if_least, number_of, number_within, word_of}
 use Rattle.spu_tool.specs.Lists.{members_of, is_word, words_of, mail_of, names_of}
 use Rattle.spu_tool.specs.Cutting.{cut_at}
 use Rattle.spu_tool.specs.Areas.{AreaParts, area_word, has_room, is_placed, place_of}
 use Rattle.spu_tool.specs.Options.{AreLinkSound, AreSound, once, with_steps, with_mail, with_place, with_image, with_stack, with_entry, with_stack_syms, with_overlay, with_root, with_buffers, with_largest, mode_named, if_among, if_multiple, is_among, buffers_of, image_of, size_of, stack_of, run_options, link_options, option_named}
 use Rattle.spu_tool.specs.Names.{is_symbol_name, symbol_name}
 use Rattle.spu_image.specs.declared.outcome.LinkOptions.{LinkOptions}
-use Rattle.spu_tool.specs.Arguments.{Given, Asked, with_area, with_option, with_named, with_parts, name_and_value, is_option, with_operand, with_word, with_words, nothing_given, of_two, asked_embed, asked_link, asked_read, asked_by, or_missing, asked_with, asked_after, asked, most_operands, has_option, is_operand, command_named, text_in}
+use Rattle.spu_tool.specs.Arguments.{Given, Asked, with_area, with_option, with_named, with_parts, name_and_value, is_option, with_operand, with_word, with_words, nothing_given, of_two, asked_embed, asked_generate, count_of, asked_link, asked_read, asked_by, or_missing, asked_with, asked_after, asked, most_operands, has_option, is_operand, command_named, text_in}
 use Rattle.spu_tool.specs.declared.areas.AreaPlace.{AreaPlace}
 use Rattle.spu_tool.specs.declared.options.TheConstants.{MAX_IMAGE}
 use Rattle.spu_elf.specs.declared.constants.TheConstants.{SEGMENT_ALIGN}
@@ -43,6 +44,7 @@ Named Link operands = Unit {0}
 Named Map operands = Unit {0}
 Named Run operands = Unit {0}
 Named Check operands = Unit {0}
+Named Generate operands = Unit {0}
 
 -- the options are sound, and each area has a file
 record Sound (command : Command) (given : Given) : Type 0 where
@@ -120,6 +122,14 @@ within_is most (Some m) n e = step (nat_le m most) refl e
     step : (b : Bool) → nat_le m most ≡ b → (if b then Some m else None) ≡ Some n → n ≤ most
     step true is e' = let same : m ≡ n = cc in let le : m ≤ most = leb-true m most is in subst (λ k. k ≤ most) same le
     step false is e' = absurd (cc)
+
+least_is : (least : ℕ) (o : Option ℕ) (n : ℕ) → if_least least o ≡ Some n → (least ≤ n) × (o ≡ Some n)
+least_is least None n e = absurd (cc)
+least_is least (Some m) n e = by_test (nat_le least m) refl e
+  where
+    by_test : (b : Bool) → nat_le least m ≡ b → (if b then Some m else None) ≡ Some n → (least ≤ n) × (Some m ≡ Some n)
+    by_test true is e' = let same : m ≡ n = cc in let le : least ≤ m = leb-true least m is in (subst (λ k. least ≤ k) same le, ap Some same)
+    by_test false is e' = absurd (cc)
 
 area_sound : (command : Command) (given : Given) (a : Option AreaParts) (g : Given) → with_area given a ≡ Some g → Sound command given → Sound command g
 area_sound command given None g e h = absurd (cc)
@@ -241,6 +251,7 @@ named_more Link operands word e h = tt
 named_more Map operands word e h = tt
 named_more Run operands word e h = tt
 named_more Check operands word e h = tt
+named_more Generate operands word e h = tt
 named_more Embed [] word e h = name_valid word e
 named_more Embed (x ∷ xs) word e h = h
 
@@ -285,7 +296,7 @@ link_complete (output ∷ []) options r few sound e = absurd (cc)
 link_complete (output ∷ input ∷ inputs) options r few sound e =
     let same : record { inputs = input ∷ inputs; output = Some output; action = action.Link options } ≡ r = cc in subst Complete same (omega arith, omega (arith, few), sound)
 
-two_is : (first second : Option (List ℕ)) (f : List ℕ → List ℕ → Asked) (r : Asked) → of_two first second f ≡ Some r → (a : List ℕ) × (b : List ℕ) × (f a b ≡ r)
+two_is : {X : Type 0} (first second : Option X) (f : X → X → Asked) (r : Asked) → of_two first second f ≡ Some r → (a : X) × (b : X) × (f a b ≡ r)
 two_is None second f r e = absurd (cc)
 two_is (Some a) None f r e = absurd (cc)
 two_is (Some a) (Some b) f r e = (a, b, (cc))
@@ -305,6 +316,19 @@ read_is : (operands files : List (List ℕ)) (wanted : Action) (r : Asked) → a
     → (1 ≤ length operands) × (record { inputs = operands ++ files; output = None; action = wanted } ≡ r)
 read_is [] files wanted r e = absurd (cc)
 read_is (input ∷ inputs) files wanted r e = (omega arith, (cc))
+
+generate_complete : (operands : List (List ℕ)) (r : Asked) → asked_generate operands ≡ Some r → Complete r
+generate_complete [] r e = absurd (cc)
+generate_complete (seed ∷ []) r e = absurd (cc)
+generate_complete (seed ∷ count ∷ rest) r e = step (word_of seed) (count_of count) refl e
+  where
+    step : (s n : Option ℕ) → count_of count ≡ n → of_two s n (λ a b. record { inputs = []; output = None; action = action.Generate a b }) ≡ Some r → Complete r
+    step None n is e' = absurd (cc)
+    step (Some s) None is e' = absurd (cc)
+    step (Some s) (Some n) is e' =
+        let same : record { inputs = []; output = None; action = action.Generate s n } ≡ r = cc in
+        let h = least_is 1 (number_within MAX_SENDERS count) n is in
+        subst Complete same (h.0, within_is MAX_SENDERS (number_of count) n h.1)
 
 by_command : (command : Command) (given : Given) (r : Asked) → Sound command given → asked_by command given ≡ Some r → Complete r
 by_command Assemble given r h e = let t = two_is _ _ _ r e in subst Complete t.2 (one t.0)
@@ -328,6 +352,7 @@ by_command Check given r h e =
     let few = h.few in
     let files = h.files in
     subst Complete t.1 (omega (arith, more, files), omega (arith, more, few, files), (h.link.stack, h.options))
+by_command Generate given r h e = generate_complete given.operands r e
 
 asked_is : (o : Option Asked) (n : ℕ) (r : Asked) → or_missing o n ≡ Ok r → o ≡ Some r
 asked_is None n r e = absurd (cc)
@@ -340,6 +365,7 @@ none Map = tt
 none Embed = tt
 none Run = tt
 none Check = tt
+none Generate = tt
 
 nothing_sound : (command : Command) → Sound command nothing_given
 nothing_sound command = record { options = record { mail = lit≤ tt; few = lit≤ tt; placed = λ i j p q a b same. absurd (no p a); aligned = refl; near = lit≤ tt }; link = record { stack = record { whole = refl; low = lit≤ tt }; buffers = (0, lit≤ tt, refl); largest = (2, lit≤ tt, refl) }; few = omega arith; files = refl; named = none command }

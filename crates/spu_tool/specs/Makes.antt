@@ -404,22 +404,22 @@ gen_text l need output =
     ++ count_line (codes "buffer") l.plan.buffer ++ count_line (codes "stack") need ++ count_line (codes "words") (length output)
     ++ count_line (codes "sum") (sum output % 2 ^ 32)
 
--- its image is run from its start
+-- the image is run from its start
 pub record RunsImage (l : Linked) (need : ℕ) (m : Made) : Type 0 where
   pub fits : load_fault l.exec l.file gen_inputs ≡ None
   pub is : let s = steps DEFAULT_STEPS (start l.exec l.file gen_inputs) in m ≡ made (status_of (end_of s.ended)) None (gen_text l need s.output)
 
--- the object is linked, and its image is run or can't be loaded
-pub record LinksAndRuns (object : Object) (m : Made) : Type 0 where
+-- objects are linked, and the image is run or can't be loaded
+pub record LinksAndRuns (objects : List Object) (m : Made) : Type 0 where
   pub linked : Linked
-  pub link : IsLinked (object ∷ []) gen_link linked
+  pub link : IsLinked objects gen_link linked
   pub made : RunsImage linked link.image.need m ⊎ LoadsNot (load_fault linked.exec linked.file gen_inputs) m
 
 -- the workload of a seed and a count is linked and run, or has a fault
 pub record MakesGen (seed count : ℕ) (m : Made) : Type 0 where
   pub object : Object
   pub workload : IsWorkload seed count object
-  pub made : LinksAndRuns object m ⊎ LinksNot (IsLinkFault (object ∷ []) gen_link) [] m
+  pub made : LinksAndRuns (object ∷ []) m ⊎ LinksNot (IsLinkFault (object ∷ []) gen_link) [] m
 
 -- a run makes the same of an executable and of an object that embeds it
 abbrev pub AreRunAlike : Type 0

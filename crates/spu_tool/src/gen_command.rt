@@ -1,7 +1,8 @@
 //! What `gen` makes of a seed and a count: a workload is linked with overlays, and its image is run.
 
-ghost use Rattle.std.specs.Prelude.{◌≡◌, ◌⊎◌, ◌≤◌, ◌∷◌, [], ◌%◌, ◌^◌, length, None, IfOk};
+ghost use Rattle.std.specs.Prelude.{◌≡◌, ◌⊎◌, ◌≤◌, [], ◌%◌, ◌^◌, length, All, None, IfOk};
 ghost use Rattle.std.specs.List.{sum};
+ghost use Rattle.spu_word.specs.declared.limits.TheConstants.{MAX_OBJECTS};
 ghost use Rattle.spu_elf.specs.Spelling.{spell_exec};
 ghost use Rattle.spu_elf.specs.Validity.{IsValidExec};
 ghost use Rattle.spu_elf.specs.WellFormed.{IsWellFormed};
@@ -42,6 +43,7 @@ fn gen_inputs(alloc: Global) -> Result<Inputs, OutOfMemory>
     inputs_of(alloc, Options::new(alloc).into_run(alloc), &[])
 }
 
+#[tactic(auto, using(crate::proofs::Workloads::sum_more))]
 /// The sum of words, modulo 2^32.
 fn sum_of(words: &[u32]) -> u32
     ensures { result ≡ sum words.now % 2 ^ 32 }
@@ -110,24 +112,31 @@ fn image_run(alloc: Global, linked: &Linked) -> Result<Made, OutOfMemory>
     }
 }
 
-/// What is made of a workload's object.
-fn object_run(alloc: Global, object: Object) -> Result<Made, OutOfMemory>
-    requires { IsWellFormed object }
-    ensures { IfOk result (λ m. LinksAndRuns object m ⊎ LinksNot (IsLinkFault (object ∷ []) gen_link) [] m) }
+/// What is made of objects that are linked as workloads are.
+fn objects_run(
+    alloc: Global,
+    objects: &Seq<Object>,
+    options: &LinkOptions,
+) -> Result<Made, OutOfMemory>
+    requires few { length objects.now ≤ MAX_OBJECTS }
+    requires formed { All IsWellFormed objects.now }
+    requires options { options.now ≡ gen_link }
+    ensures { IfOk result (λ m. LinksAndRuns objects.now m ⊎ LinksNot (IsLinkFault objects.now gen_link) [] m) }
 {
-    let mut objects = Seq::new(alloc);
-    objects.push(object)?;
-    match link(alloc, &objects, &gen_link(alloc)?) {
+    match link(alloc, objects, options) {
         Ok(linked) => image_run(alloc, &linked),
         Err(fault) => link_refusal(alloc, &[], &fault),
     }
 }
 
+#[tactic(auto, using(crate::proofs::Workloads::made_if, crate::proofs::Workloads::formed_alone))]
 /// What is made of a seed and a count of functions beside `main`, 1 to 400: what a run of their workload's image shows.
 pub fn gen_command(alloc: Global, seed: u32, count: u32) -> Result<Made, OutOfMemory>
     requires least { 1 ≤ count }
     requires most { count ≤ MAX_SENDERS }
     ensures { IfOk result (MakesGen seed count) }
 {
-    object_run(alloc, workload(alloc, seed, count)?)
+    let mut objects = Seq::new(alloc);
+    objects.push(workload(alloc, seed, count)?)?;
+    objects_run(alloc, &objects, &gen_link(alloc)?)
 }
