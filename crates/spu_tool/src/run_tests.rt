@@ -1,5 +1,6 @@
 //! Runs, and the lines that they put.
 
+use crate::link_tests::main_of;
 use crate::status::Status;
 use crate::tests::Outside;
 use spu_elf::{Exec, Segment, SymKind, SymPlace, Symbol, write_exec};
@@ -320,6 +321,29 @@ words 3
 words 3
 words 2
 ";
+    assert_eq!(rt; outside.out.as_slice(), text.as_slice());
+    Ok(())
+}
+
+#[test]
+fn mail_is_sent_back(rt: HostRuntime) -> Result<(), Fail> {
+    let alloc = rt.alloc();
+    let mut outside = Outside::new(alloc, None, None)?;
+    let text = main_of(alloc, "rdch $3,29\nwrch 28,$3\nbr main", "")?;
+    outside.files.hold("echo.s", text.as_bytes())?;
+    let calls = [
+        ("asm echo.s echo.o", Status::Ok),
+        ("link echo.elf echo.o", Status::Ok),
+        (
+            "run --mail=1,0x10,4294967295,4,5,6,7,8,9,10 echo.elf",
+            Status::Ended,
+        ),
+    ];
+    for (line, status) in calls {
+        assert_eq!(rt; outside.call(alloc, line)?, status, "at {line}");
+    }
+    let text = b"image flat\nfunctions 1\nstack 0 of 16384\ntop 176 of 245728
+out 1\nout 16\nout 4294967295\nout 4\nout 5\nout 6\nout 7\nout 8\nout 9\nout 10\nstarved\nsteps 33\n";
     assert_eq!(rt; outside.out.as_slice(), text.as_slice());
     Ok(())
 }
