@@ -13,6 +13,8 @@ mod concluding;
 mod cutting;
 mod embed_command;
 mod fault_lines;
+#[cfg(test)]
+mod fault_tests;
 mod gen_command;
 #[cfg(test)]
 mod gen_tests;

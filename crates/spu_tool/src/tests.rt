@@ -9,7 +9,7 @@ use std::alloc::Global;
 use std::test::Fail;
 
 // A text that sends 5.
-const FIVE: &[u8] = b".text
+pub const FIVE: &[u8] = b".text
 .global main
 .type main,@function
 main:
