@@ -9,5 +9,6 @@ pub mod Channels
 pub mod Transfers
 pub mod Tags
 pub mod Areas
+pub mod Landing
 pub mod Entries
 pub mod Admission

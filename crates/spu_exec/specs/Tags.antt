@@ -1,6 +1,6 @@
 -- The tags of transfers that wait: which transfers land where the status of tags is read, and the status. Cell Broadband Engine
 -- Architecture, "MFC tag-group status channels"; that a transfer waits until then is this project's own rule.
-use Rattle.std.specs.Prelude.{ℕ, ◌+◌, ◌-◌, ◌/◌, ◌%◌, ◌^◌, ◌<◌, ◌≤◌, ◌==◌, ◌&&◌, not, if◌then◌else◌, Bool, false, List, [], ◌∷◌, filter}
+use Rattle.std.specs.Prelude.{◌≡◌, ℕ, suc, ◌+◌, ◌-◌, ◌/◌, ◌%◌, ◌^◌, ◌<◌, ◌≤◌, ◌==◌, ◌&&◌, not, if◌then◌else◌, Bool, false, List, [], ◌∷◌, length, filter}
 use Rattle.std.specs.Int.{sum_through}
 use Rattle.std.specs.List.{All, list_any}
 use Rattle.spu_word.specs.declared.limits.TheConstants.{STORE_SIZE}
@@ -49,3 +49,15 @@ pub record IsWaiting (t : Transfer) : Type 0 where
 
 abbrev pub AllWaiting : List Transfer → Type 0
 AllWaiting queue = All IsWaiting queue
+
+-- a transfer is the first of a queue whose tag passes a test, and these are left where it is taken out
+pub record Leaves (test : ℕ → Bool) (t : Transfer) (queue rest : List Transfer) : Type 0 where
+  pub waiting : IsWaiting t
+  pub first : with_tags test queue ≡ t ∷ with_tags test rest
+  pub others : without_tags test queue ≡ without_tags test rest
+  pub fewer : length queue ≡ suc (length rest)
+
+-- no transfer of a queue has a tag that passes a test
+pub record AllStay (test : ℕ → Bool) (queue : List Transfer) : Type 0 where
+  pub none : with_tags test queue ≡ []
+  pub all : without_tags test queue ≡ queue

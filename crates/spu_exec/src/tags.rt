@@ -1,8 +1,20 @@
 //! The tags of transfers that wait: which land where their status is read, and the status.
 
-ghost use Rattle.std.specs.Prelude.{◌≡◌, ◌<◌, ◌≤◌, ◌+◌, ◌^◌, List, length};
+ghost use Rattle.std.specs.Prelude.{◌≡◌, ◌<◌, ◌≤◌, ◌+◌, ◌^◌, ℕ, List, length, vec_capacity, IfSome, IsNone};
 ghost use Rattle.std.specs.Int.{sum_through};
-ghost use Rattle.spu_exec.specs.Tags.{has_tag, waits, is_first_tag, is_landing, status_bit, status, AllWaiting};
+ghost use Rattle.spu_exec.specs.Tags.{
+  AllStay,
+  AllWaiting,
+  Leaves,
+  has_tag,
+  is_first_tag,
+  is_landing,
+  status,
+  status_bit,
+  waits,
+  with_tags,
+  without_tags,
+};
 
 use crate::channels::{TAG_COUNT, UPDATE_ANY, UPDATE_IMMEDIATE};
 use crate::transfers::Transfer;
@@ -25,18 +37,18 @@ pub fn waits(queue: &[Transfer], tag: u32) -> bool
     }
 }
 
-/// Whether this is the tag of the first transfer whose tag is in a mask.
-fn is_first_tag(queue: &[Transfer], mask: u32, tag: u32) -> bool
+/// The bit of the tag of the first transfer whose tag is in a mask.
+fn first_tag(queue: &[Transfer], mask: u32) -> u32
     requires { AllWaiting queue.now }
-    ensures { result ≡ is_first_tag queue.now mask tag }
+    ensures { (tag : ℕ) → tag < TAG_COUNT → has_tag result tag ≡ is_first_tag queue.now mask tag }
 {
     match queue {
-        [] => false,
+        [] => 0,
         [t, rest @ ..] => {
             if has_tag(mask, t.tag) {
-                t.tag == tag
+                1 << t.tag
             } else {
-                is_first_tag(rest, mask, tag)
+                first_tag(rest, mask)
             }
         }
     }
@@ -76,16 +88,45 @@ pub fn status(mask: u32, queue: &[Transfer]) -> u32
     status_through(mask, queue, TAG_COUNT - 1)
 }
 
-/// Whether transfers with this tag land, where the status is read.
-pub fn is_landing(update: u32, mask: u32, queue: &[Transfer], tag: u32) -> bool
-    requires { (tag < TAG_COUNT) × AllWaiting queue.now }
-    ensures { result ≡ is_landing update mask queue.now tag }
+/// The tags whose transfers land where the status is read, as a mask.
+fn landing_mask(update: u32, mask: u32, queue: &[Transfer]) -> u32
+    requires { AllWaiting queue.now }
+    ensures { (tag : ℕ) → tag < TAG_COUNT → has_tag result tag ≡ is_landing update mask queue.now tag }
 {
     if update == UPDATE_IMMEDIATE {
-        false
+        0
     } else if update == UPDATE_ANY {
-        status(mask, queue) == 0 && is_first_tag(queue, mask, tag)
+        if status(mask, queue) == 0 {
+            first_tag(queue, mask)
+        } else {
+            0
+        }
     } else {
-        has_tag(mask, tag)
+        mask
     }
+}
+
+/// The tags whose transfers land where the status is read, as a mask.
+pub fn landing_tags(update: u32, mask: u32, queue: &[Transfer]) -> u32
+    requires { AllWaiting queue.now }
+    ensures land { with_tags (has_tag result) queue.now ≡ with_tags (is_landing update mask queue.now) queue.now }
+    ensures stay { without_tags (has_tag result) queue.now ≡ without_tags (is_landing update mask queue.now) queue.now }
+{
+    landing_mask(update, mask, queue)
+}
+
+/// Takes the first transfer that has one of these tags out of a queue, if there is one.
+pub fn take_landing(queue: &mut Vec<Transfer>, tags: u32) -> Option<Transfer>
+    requires { AllWaiting queue.old.items }
+    ensures some { IfSome result (λ t. Leaves (has_tag tags) t queue.old.items queue.new.items) }
+    ensures none { IsNone result → AllStay (has_tag tags) queue.new.items × (queue.new.items ≡ queue.old.items) }
+    ensures waiting { AllWaiting queue.new.items }
+    ensures room { vec_capacity queue.new ≡ vec_capacity queue.old }
+{
+    for k in 0..queue.len() {
+        if has_tag(tags, queue[k].tag) {
+            return Some(queue.remove(k));
+        }
+    }
+    None
 }
