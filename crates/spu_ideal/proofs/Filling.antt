@@ -20,7 +20,7 @@ use Rattle.spu_ideal.specs.declared.quads.SymQuad.TheVariants.{Numbers}
 use Rattle.spu_ideal.specs.Bytes.{sixteen, sym_at}
 use Rattle.spu_ideal.specs.Quads.{byte_in, quad_bytes}
 use Rattle.spu_ideal.specs.View.{regs_of, store_of}
-use Rattle.spu_ideal.specs.Channels.{placed}
+use Rattle.spu_ideal.specs.Landing.{placed}
 use Rattle.spu_ideal.specs.Machine.{labelled, data_byte, entry_of, with_entries}
 use Rattle.spu_ideal.specs.Filling.{filled, section_bytes}
 use Rattle.spu_ideal.proofs.Listed.{bytes_at}

@@ -34,7 +34,8 @@ use Rattle.spu_exec.specs.declared.transfers.Form.{Form}
 use Rattle.spu_exec.specs.declared.transfers.Form.TheVariants.{Put, Get}
 use Rattle.spu_exec.specs.declared.transfers.Transfer.{Transfer}
 use Rattle.spu_exec.specs.Areas.{written}
-use Rattle.spu_ideal.specs.Channels.{Contents, numbers_from, puts, land_by, land_all, placed}
+use Rattle.spu_exec.specs.Landing as landing
+use Rattle.spu_ideal.specs.Landing.{Contents, land, land_by, placed}
 use Rattle.spu_ideal.specs.Machine.{with_entries, leaves, labelled, data_byte}
 use Rattle.spu_ideal.specs.Accesses.{loaded, saved}
 use Rattle.spu_lift.specs.WellFormed.{IsTakenTarget}
@@ -163,33 +164,11 @@ taken_entries p [] areas store h = h
 taken_entries p (e ∷ es) areas store h = taken_entries p es areas (placed e.at (quad_for areas e.name) store) (taken_placed p e.at (quad_for areas e.name) store h)
 
 -- a transfer to the store writes numbers
-taken_landed_one : (p : Prog) (form : Form) (t : Transfer) (c d : Contents) → land_by form t c ≡ Some d → ((k : ℕ) → IsTaken p (c.store k)) → (k : ℕ) → IsTaken p (d.store k)
-taken_landed_one p Get t c d e h k = subst (λ (d : Contents). IsTaken p (d.store k)) (some_contents _ d e) (taken_placed p t.local _ c.store h k)
-  where
-    some_contents : (c d : Contents) → Some c ≡ Some d → c ≡ d
-    some_contents c d e = cc
-taken_landed_one p Put t c d e h k = by_bytes (numbers_from c.store t.local t.size) e
-  where
-    by_bytes : (o : Option (List ℕ)) → puts o t.ea c ≡ Some d → IsTaken p (d.store k)
-    by_bytes None e = absurd (cc)
-    by_bytes (Some bytes) e = subst (λ (d : Contents). IsTaken p (d.store k)) (some_contents (record c { areas = written t.ea bytes c.areas }) d e) (h k)
-      where
-        some_contents : (c d : Contents) → Some c ≡ Some d → c ≡ d
-        some_contents c d e = cc
+taken_landed_one : (p : Prog) (form : Form) (t : Transfer) (c : Contents) → ((k : ℕ) → IsTaken p (c.store k)) → (k : ℕ) → IsTaken p ((land_by form t c).store k)
+taken_landed_one p Get t c h k = taken_placed p t.local _ c.store h k
+taken_landed_one p Put t c h k = h k
 
-landed_none : (ts : List Transfer) (d : Contents) → land_all ts None ≡ Some d → ⊥
-unfolding land_all
-landed_none [] d e = cc
-landed_none (t ∷ ts) d e = cc
-
-pub taken_landed : (p : Prog) (ts : List Transfer) (c d : Contents) → land_all ts (Some c) ≡ Some d → ((k : ℕ) → IsTaken p (c.store k)) → (k : ℕ) → IsTaken p (d.store k)
-unfolding land_all
-taken_landed p [] c d e h k = subst (λ (d : Contents). IsTaken p (d.store k)) (some_contents c d e) (h k)
-  where
-    some_contents : (c d : Contents) → Some c ≡ Some d → c ≡ d
-    some_contents c d e = cc
-taken_landed p (t ∷ ts) c d e h k = by_first (land_by t.form t c) refl (λ b q r. taken_landed p ts b d q r k) e
-  where
-    by_first : (o : Option Contents) → land_by t.form t c ≡ o → ((b : Contents) → land_all ts (Some b) ≡ Some d → ((j : ℕ) → IsTaken p (b.store j)) → IsTaken p (d.store k)) → land_all ts o ≡ Some d → IsTaken p (d.store k)
-    by_first None is again e = absurd (landed_none ts d e)
-    by_first (Some b) is again e = again b e (taken_landed_one p t.form t c b is h)
+pub taken_landed : (p : Prog) (ts : List Transfer) (c : Contents) → ((k : ℕ) → IsTaken p (c.store k)) → (k : ℕ) → IsTaken p ((land ts c).store k)
+unfolding landing.land
+taken_landed p [] c h k = h k
+taken_landed p (t ∷ ts) c h k = taken_landed p ts (land_by t.form t c) (taken_landed_one p t.form t c h) k

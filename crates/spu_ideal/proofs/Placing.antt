@@ -1,20 +1,16 @@
--- Numbers that are placed in a store byte by byte, and numbers of a store that are copied over bytes.
+-- Numbers that are placed in a store byte by byte, and numbers of a store that are read.
 use Rattle.std.proofs.Common.{◌≡◌, ◌≢◌, ℕ, zero, suc, ◌+◌, ◌-◌, ◌<◌, ◌≤◌, List, [], ◌∷◌, ◌++◌, length, get_or, take, drop, Some, None, Option, Bool, true, false, not, refl, sym, ap, ap₂, ◌∙◌, arith, append_assoc, length-append, length-take, drop-cons, add-one}
 use Rattle.std.specs.Prelude.{◌==◌, ◌&&◌, ◌||◌, if◌then◌else◌, nat_le, nat_lt, slice_index}
-use Rattle.std.proofs.Math.ListN.{set}
 use Rattle.std.proofs.Math.Path.{fun_ext}
-use Rattle.std.proofs.Math.Seq.{set-append_seam}
 use Rattle.std.proofs.lemmas.Bool.{cond_both}
 use Rattle.std.proofs.lemmas.Bool.Decides.{nat_tests}
 use Rattle.std.proofs.lemmas.List.{get_or_default, get_or-take, take_all, take_more, length-take-le}
 use Rattle.spu_word.specs.declared.load.Area.{Area}
 use Rattle.spu_exec.specs.declared.transfers.Transfer.{Transfer}
-use Rattle.spu_exec.specs.Areas.{with_bytes}
 use Rattle.spu_lift.specs.declared.symbolic.SymByte.{SymByte}
 use Rattle.spu_lift.specs.declared.symbolic.SymByte.TheVariants.{Num, Part, Unknown}
-use Rattle.spu_ideal.specs.Bytes.{is_number, number_in, number_of}
-use Rattle.spu_ideal.specs.Channels.{before, numbers_from, placed}
-use Rattle.spu_ideal.specs.Landing.{some_fills, is_readable, lands_well, all_land}
+use Rattle.spu_ideal.specs.Bytes.{is_number, number_of}
+use Rattle.spu_ideal.specs.Landing.{all_land, is_readable, lands_well, numbers_from, placed, some_fills}
 
 -- ---- placing
 
@@ -55,69 +51,18 @@ placed_more at bytes m k lt = fun_ext (λ j.
 pub placed_all : (at n : ℕ) (bytes : List ℕ) (m : ℕ → SymByte) → length bytes ≤ n → placed at (take n bytes) m ≡ placed at bytes m
 placed_all at n bytes m le = ap (λ (l : List ℕ). placed at l m) (take_all n bytes le)
 
--- ---- copying
+-- ---- numbers that are read
 
-pub values : (ℕ → SymByte) → ℕ → ℕ → List ℕ
-values m a zero = []
-values m a (suc n) = number_of (m a) ∷ values m (a + 1) n
+pub length-numbers : (m : ℕ → SymByte) (a n : ℕ) → length (numbers_from m a n) ≡ n
+unfolding numbers_from
+length-numbers m a zero = refl
+length-numbers m a (suc n) = ap suc (length-numbers m (a + 1) n)
 
-pub length-values : (m : ℕ → SymByte) (a n : ℕ) → length (values m a n) ≡ n
-unfolding values
-length-values m a zero = refl
-length-values m a (suc n) = ap suc (length-values m (a + 1) n)
-
-pub value_at : (m : ℕ → SymByte) (a n k : ℕ) → k < n → get_or (values m a n) k 0 ≡ number_of (m (a + k))
-unfolding values
-value_at m a zero k lt = absurd (omega arith)
-value_at m a (suc n) zero lt = (let e : a ≡ a + 0 = omega arith in ap (λ i. number_of (m i)) e)
-value_at m a (suc n) (suc k) lt = value_at m (a + 1) n k (omega arith) ∙ (let e : a + 1 + k ≡ a + suc k = omega arith in ap (λ i. number_of (m i)) e)
-
-pub numbers_values : (m : ℕ → SymByte) (a n : ℕ) (numbers : List ℕ) → numbers_from m a n ≡ Some numbers → numbers ≡ values m a n
-unfolding numbers_from values
-numbers_values m a zero numbers e = (let f : [] ≡ numbers = cc in sym f)
-numbers_values m a (suc n) numbers e = by_first (m a) refl (numbers_from m (a + 1) n) refl e (numbers_values m (a + 1) n)
-  where
-    by_rest : (v : ℕ) (o : Option (List ℕ)) → numbers_from m (a + 1) n ≡ o → before (Some v) o ≡ Some numbers → ((ns : List ℕ) → numbers_from m (a + 1) n ≡ Some ns → ns ≡ values m (a + 1) n) → numbers ≡ v ∷ values m (a + 1) n
-    by_rest v None is e again = absurd (cc)
-    by_rest v (Some vs) is e again = (let f : v ∷ vs ≡ numbers = cc in sym f ∙ ap (λ l. v ∷ l) (again vs is))
-
-    by_first : (s : SymByte) → m a ≡ s → (o : Option (List ℕ)) → numbers_from m (a + 1) n ≡ o → before (number_in s) o ≡ Some numbers → ((ns : List ℕ) → numbers_from m (a + 1) n ≡ Some ns → ns ≡ values m (a + 1) n) → numbers ≡ number_of s ∷ values m (a + 1) n
-    by_first (Num v) here o is e again = by_rest v o is e again
-    by_first (Part l k) here o is e again = absurd (cc)
-    by_first Unknown here o is e again = absurd (cc)
-
--- an element where two lists meet
-seam : (xs ys zs : List ℕ) (m n x v : ℕ) → length xs ≡ m → length ys ≡ n → set (xs ++ (ys ++ x ∷ zs)) (m + n) v ≡ xs ++ ((ys ++ v ∷ []) ++ zs)
-seam xs ys zs m n x v p q =
-    let at : m + n ≡ length (xs ++ ys) = omega (arith, length-append xs ys) in
-    ap (λ (l : List ℕ). set l (m + n) v) (sym (append_assoc xs ys (x ∷ zs)))
-    ∙ ap (λ (k : ℕ). set ((xs ++ ys) ++ x ∷ zs) k v) at
-    ∙ set-append_seam (xs ++ ys) x zs v
-    ∙ append_assoc xs ys (v ∷ zs)
-    ∙ ap (λ (l : List ℕ). xs ++ l) (sym (append_assoc ys (v ∷ []) zs))
-
--- one byte more of those that are written over others
-pub with_more : (at k : ℕ) (bytes old : List ℕ) → k < length bytes → at + length bytes ≤ length old → set (with_bytes at (take k bytes) old) (at + k) (get_or bytes k 0) ≡ with_bytes at (take (k + 1) bytes) old
-with_more at k bytes old lt fits =
-    let front : length (take at old) ≡ at = omega (arith, length-take at old) in
-    let done : length (take k bytes) ≡ k = omega (arith, length-take k bytes) in
-    let more : take (k + 1) bytes ≡ take k bytes ++ get_or bytes k 0 ∷ [] = take_more bytes k 0 lt in
-    let made : length (take (k + 1) bytes) ≡ k + 1 = omega (arith, length-take (k + 1) bytes) in
-    let left : drop (at + k) old ≡ get_or old (at + k) 0 ∷ drop (suc (at + k)) old = drop-cons old (at + k) 0 (omega arith) in
-    let next : suc (at + k) ≡ at + (k + 1) = omega arith in
-    ap (λ (n : ℕ). set (take at old ++ (take k bytes ++ drop (at + n) old)) (at + k) (get_or bytes k 0)) done
-    ∙ ap (λ (l : List ℕ). set (take at old ++ (take k bytes ++ l)) (at + k) (get_or bytes k 0)) left
-    ∙ seam (take at old) (take k bytes) (drop (suc (at + k)) old) at k (get_or old (at + k) 0) (get_or bytes k 0) front done
-    ∙ ap (λ (l : List ℕ). take at old ++ (l ++ drop (suc (at + k)) old)) (sym more)
-    ∙ ap (λ (n : ℕ). take at old ++ (take (k + 1) bytes ++ drop n old)) (next ∙ ap (λ (n : ℕ). at + n) (sym made))
-
-pub with_none : (at : ℕ) (bytes old : List ℕ) → old ≡ with_bytes at (take 0 bytes) old
-with_none at bytes old = (let e : at ≡ at + 0 = omega arith in joined at old ∙ ap (λ n. take at old ++ drop n old) e)
-  where
-    joined : (n : ℕ) (l : List ℕ) → l ≡ take n l ++ drop n l
-    joined zero l = refl
-    joined (suc n) [] = refl
-    joined (suc n) (x ∷ l) = ap (λ r. x ∷ r) (joined n l)
+pub number_at : (m : ℕ → SymByte) (a n k : ℕ) → k < n → get_or (numbers_from m a n) k 0 ≡ number_of (m (a + k))
+unfolding numbers_from
+number_at m a zero k lt = absurd (omega arith)
+number_at m a (suc n) zero lt = (let e : a ≡ a + 0 = omega arith in ap (λ i. number_of (m i)) e)
+number_at m a (suc n) (suc k) lt = number_at m (a + 1) n k (omega arith) ∙ (let e : a + 1 + k ≡ a + suc k = omega arith in ap (λ i. number_of (m i)) e)
 
 -- ---- whether transfers land
 
@@ -148,9 +93,6 @@ land_next m test areas queue k t lt is =
 pub land_last : (m : ℕ → SymByte) (test : ℕ → Bool) (areas : List Area) (front rest : List Transfer) → rest ≡ [] → all_land m test areas front rest ≡ true
 unfolding all_land
 land_last m test areas front rest e = ap (all_land m test areas front) e
-
-pub length-numbers : (m : ℕ → SymByte) (a n : ℕ) (numbers : List ℕ) → numbers_from m a n ≡ Some numbers → length numbers ≡ n
-length-numbers m a n numbers e = ap length (numbers_values m a n numbers e) ∙ length-values m a n
 
 not_false : (r b : Bool) → r ≡ not b → r ≡ false → b ≡ true
 not_false r true e f = refl

@@ -34,7 +34,8 @@ use Rattle.spu_exec.specs.declared.transfers.Transfer.{Transfer}
 use Rattle.spu_exec.specs.Transfers.{form_of}
 use Rattle.spu_exec.specs.Tags.{with_tags, is_landing, status}
 use Rattle.spu_ideal.specs.Tested.{can_test, can_halt, symbolic_taken, symbolic_holds}
-use Rattle.spu_ideal.specs.Channels.{Contents, land_all, knows_transfer, transfer_by, is_free, waits_last, is_within, writes_word, writes_known, takes, answered, answers, reads, unless_last, counts_by, uses_channel}
+use Rattle.spu_ideal.specs.Landing.{can_land}
+use Rattle.spu_ideal.specs.Channels.{contents_of, lands_tags, knows_transfer, transfer_by, is_free, waits_last, is_within, writes_word, writes_known, takes, answers_by, answers, reads, unless_last, counts_by, uses_channel}
 use Rattle.spu_ideal.specs.declared.state.Update.{Update}
 use Rattle.spu_ideal.specs.declared.state.Update.TheVariants.{NoUpdate, Pending, UnknownUpdate}
 use Rattle.spu_ideal.specs.State.{put, put_word, Sym, outside, goes, sets}
@@ -220,14 +221,16 @@ module _ (p : Prog) (frames : ℕ → ℕ) (need : ℕ) (judged : IsJudged p fra
     takes_keeps w [] = ends_keeps p s _ inv
     takes_keeps w (v ∷ mail) = put_keeps w (record s { mail = mail }) inv.stored v
 
-    answered_keeps : (row_of x.inst.op).writes ≡ true → (o : Option Contents) (ts left : List Transfer) → land_all ts (Some (record { store = s.store; areas = s.areas })) ≡ o → IsOf p (answered o left x.inst.rt p s)
-    answered_keeps w None ts left e = ends_keeps p s _ inv
-    answered_keeps w (Some c) ts left e = put_keeps w (record s { store = c.store; areas = c.areas; queue = left; update = NoUpdate }) (taken_landed p ts (record { store = s.store; areas = s.areas }) c e inv.stored) (status s.mask left)
+    answered_keeps : (row_of x.inst.op).writes ≡ true → (test : ℕ → Bool) → IsOf p (answers_by test x.inst.rt p s)
+    answered_keeps w test =
+        cond_both (can_land (with_tags test s.queue) (contents_of s)) _ _ (IsOf p)
+        (λ can. put_keeps w (record (lands_tags test s) { update = NoUpdate }) (taken_landed p (with_tags test s.queue) (contents_of s) inv.stored) (status s.mask (without_tags test s.queue)))
+        (λ cannot. ends_keeps p s _ inv)
 
     answers_keeps : (row_of x.inst.op).writes ≡ true → (u : Update) → IsOf p (answers u x.inst.rt p s)
     answers_keeps w NoUpdate = ends_keeps p s _ inv
     answers_keeps w UnknownUpdate = ends_keeps p s _ inv
-    answers_keeps w (Pending u) = answered_keeps w _ (with_tags (is_landing u s.mask s.queue) s.queue) _ refl
+    answers_keeps w (Pending u) = answered_keeps w (is_landing u s.mask s.queue)
 
     reads_keeps : (row_of x.inst.op).writes ≡ true → (n : ℕ) → IsOf p (reads n x.inst.rt p s)
     reads_keeps w n =

@@ -36,10 +36,13 @@ use Rattle.spu_ideal.specs.declared.state.Update.TheVariants.{NoUpdate, Pending,
 use Rattle.spu_ideal.specs.State.{Sym, goes_to}
 use Rattle.spu_ideal.specs.Tested.{can_test, can_halt, symbolic_taken, symbolic_holds}
 use Rattle.spu_ideal.specs.Accesses.{is_allowed, address, loads, stores}
-use Rattle.spu_ideal.specs.Channels.{Contents, no_image, numbers_from, puts, land_by, land_all, knows_transfer, transfer_by, is_free, waits_last, is_within, commands, writes_word, writes_known, takes, answered, answers, reads, unless_last, counts_by, uses_channel}
+use Rattle.spu_exec.specs.Landing as landing
+use Rattle.spu_ideal.specs.Landing.{Contents, can_land, land, land_by, no_image, numbers_from}
+use Rattle.spu_ideal.specs.Channels.{contents_of, knows_transfer, transfer_by, is_free, waits_last, is_within, commands, writes_word, writes_known, takes, answers_by, answers, reads, unless_last, counts_by, uses_channel}
 use Rattle.spu_ideal.specs.Machine.{returns, jumps, calls_direct, branches, word_label, calls_pointer, points, goes_indirect, where_taken, acts, obeys, unless_ended, step}
 use Rattle.spu_ideal.specs.Promises.{IsReached, IsSafe, AreWaiting}
-use Rattle.spu_ideal.proofs.Areas.{or_true, taken_some, same_taken}
+use Rattle.spu_exec.proofs.AreaWrites.{same_taken}
+use Rattle.spu_ideal.proofs.Areas.{or_true, taken_some}
 
 -- ---- queues
 
@@ -75,41 +78,14 @@ module _ (p : Prog) (limit : ℕ) where
   abbrev W : Sym → Type 0
   W s = AreWaiting p limit s.areas s.queue
 
-  one_safe : (c d : Contents) (t u : Transfer) (form : Form) → land_by form t c ≡ Some d → IsSafe p limit c.areas u → IsSafe p limit d.areas u
-  one_safe c d t u Get e h = subst (λ (d : Contents). IsSafe p limit d.areas u) (some_is _ d e) h
-    where
-      some_is : (c d : Contents) → Some c ≡ Some d → c ≡ d
-      some_is c d e = cc
-  one_safe c d t u Put e h = by_bytes (numbers_from c.store t.local t.size) e
-    where
-      by_bytes : (o : Option (List ℕ)) → puts o t.ea c ≡ Some d → IsSafe p limit d.areas u
-      by_bytes None e = absurd (no_contents d e)
-        where
-          no_contents : (d : Contents) → None ≡ Some d → ⊥
-          no_contents d e = cc
-      by_bytes (Some bytes) e =
-          subst (λ (d : Contents). IsSafe p limit d.areas u) (some_is (record c { areas = written t.ea bytes c.areas }) d e)
-          (record { taken = same_taken t.ea bytes c.areas u h.taken; reached = h.reached })
-        where
-          some_is : (c d : Contents) → Some c ≡ Some d → c ≡ d
-          some_is c d e = cc
+  one_safe : (c : Contents) (t u : Transfer) (form : Form) → IsSafe p limit c.areas u → IsSafe p limit (land_by form t c).areas u
+  one_safe c t u Get h = h
+  one_safe c t u Put h = record { taken = same_taken no_image t.ea (numbers_from c.store t.local t.size) c.areas u h.taken; reached = h.reached }
 
-  land_none : (ts : List Transfer) (d : Contents) → land_all ts None ≡ Some d → ⊥
-  unfolding land_all
-  land_none [] d e = cc
-  land_none (t ∷ ts) d e = cc
-
-  land_safe : (ts : List Transfer) (c d : Contents) (u : Transfer) → land_all ts (Some c) ≡ Some d → IsSafe p limit c.areas u → IsSafe p limit d.areas u
-  unfolding land_all
-  land_safe [] c d u e h = subst (λ (d : Contents). IsSafe p limit d.areas u) (some_is c d e) h
-    where
-      some_is : (c d : Contents) → Some c ≡ Some d → c ≡ d
-      some_is c d e = cc
-  land_safe (t ∷ ts) c d u e h = by_first (land_by t.form t c) refl (λ b q r. land_safe ts b d u q r) e
-    where
-      by_first : (o : Option Contents) → land_by t.form t c ≡ o → ((b : Contents) → land_all ts (Some b) ≡ Some d → IsSafe p limit b.areas u → IsSafe p limit d.areas u) → land_all ts o ≡ Some d → IsSafe p limit d.areas u
-      by_first None is again e = absurd (land_none ts d e)
-      by_first (Some b) is again e = again b e (one_safe c b t u t.form is h)
+  land_safe : (ts : List Transfer) (c : Contents) (u : Transfer) → IsSafe p limit c.areas u → IsSafe p limit (land ts c).areas u
+  unfolding landing.land
+  land_safe [] c u h = h
+  land_safe (t ∷ ts) c u h = land_safe ts (land_by t.form t c) u (one_safe c t u t.form h)
 
   all_safe : (areas others : List Area) (q : List Transfer) → ((u : Transfer) → IsSafe p limit areas u → IsSafe p limit others u) → AllByRecursion (IsSafe p limit areas) q → AllByRecursion (IsSafe p limit others) q
   all_safe areas others [] f h = tt
@@ -173,19 +149,20 @@ module _ (p : Prog) (limit : ℕ) where
 
     -- ---- reads
 
-    left_kept : (o : Option Contents) (test : ℕ → Bool) (t : ℕ) → land_all (with_tags test s.queue) (Some (record { store = s.store; areas = s.areas })) ≡ o → W (answered o (without_tags test s.queue) t p s)
-    left_kept None test t e = h
-    left_kept (Some c) test t e = on s.f (s.i + 1) _ (record {
-      safe = all_safe s.areas c.areas (without_tags test s.queue) (λ u is. land_safe (with_tags test s.queue) (record { store = s.store; areas = s.areas }) c u e is)
-          (all_filter (IsSafe p limit s.areas) (λ u. not (test u.tag)) s.queue h.safe);
-      few = (let a = filter_length (λ u. not (test u.tag)) s.queue in let b = h.few in omega arith);
-      untagged = waits_filter (λ u. not (test u.tag)) s.queue LOADER_TAG h.untagged;
-    })
+    left_kept : (test : ℕ → Bool) (t : ℕ) → W (answers_by test t p s)
+    left_kept test t = cond_both (can_land (with_tags test s.queue) (contents_of s)) _ _ W
+        (λ can. on s.f (s.i + 1) _ (record {
+          safe = all_safe s.areas (land (with_tags test s.queue) (contents_of s)).areas (without_tags test s.queue) (land_safe (with_tags test s.queue) (contents_of s))
+              (all_filter (IsSafe p limit s.areas) (λ u. not (test u.tag)) s.queue h.safe);
+          few = (let a = filter_length (λ u. not (test u.tag)) s.queue in let b = h.few in omega arith);
+          untagged = waits_filter (λ u. not (test u.tag)) s.queue LOADER_TAG h.untagged;
+        }))
+        (λ cannot. h)
 
     answers_kept : (u : Update) (t : ℕ) → W (answers u t p s)
     answers_kept NoUpdate t = h
     answers_kept UnknownUpdate t = h
-    answers_kept (Pending u) t = left_kept _ (is_landing u s.mask s.queue) t refl
+    answers_kept (Pending u) t = left_kept (is_landing u s.mask s.queue) t
 
     takes_kept : (mail : List ℕ) (t : ℕ) → W (takes mail t p s)
     takes_kept [] t = h

@@ -1,10 +1,9 @@
 -- Channels of the symbolic machine. A command waits in the queue as on the machine; it must lie in one named area and in
 -- what the running function may store, and leave the loader its tag and four places of the queue. A transfer to an area needs bytes
 -- that are numbers as it lands.
-use Rattle.std.specs.Prelude.{ℕ, zero, suc, ◌+◌, ◌-◌, ◌==◌, ◌&&◌, ◌||◌, not, nat_lt, nat_le, if◌then◌else◌, Bool, true, false, List, [], ◌∷◌, ◌++◌, length, map, Option, Some, None, is_some, slice_index}
+use Rattle.std.specs.Prelude.{ℕ, ◌+◌, ◌==◌, ◌&&◌, ◌||◌, not, nat_lt, if◌then◌else◌, Bool, true, false, List, [], ◌∷◌, ◌++◌, length, Option, Some, None, is_some}
 use Rattle.spu_word.specs.declared.limits.TheConstants.{OUTBOX_SIZE}
 use Rattle.spu_word.specs.Bytes.{quad_of}
-use Rattle.spu_word.specs.declared.load.Area.{Area}
 use Rattle.spu_isa.specs.declared.operation.Op.{Op}
 use Rattle.spu_isa.specs.declared.operation.Op.TheVariants as op
 use Rattle.spu_isa.specs.declared.instruction.Inst.{Inst}
@@ -12,10 +11,8 @@ use Rattle.spu_exec.specs.declared.channels.TheConstants.{MFC_CMD, MFC_EAH, MFC_
 use Rattle.spu_exec.specs.Channels.{is_written, is_counted, is_update, count_of}
 use Rattle.spu_exec.specs.Moves.{or_zero}
 use Rattle.spu_exec.specs.declared.transfers.Form.{Form}
-use Rattle.spu_exec.specs.declared.transfers.Form.TheVariants.{Put, Get}
 use Rattle.spu_exec.specs.declared.transfers.Transfer.{Transfer}
-use Rattle.spu_exec.specs.Transfers.{Stretch, stretch_of, form_of, is_taken, described}
-use Rattle.spu_exec.specs.Areas.{bytes_at, written}
+use Rattle.spu_exec.specs.Transfers.{form_of, is_taken, described}
 use Rattle.spu_exec.specs.Tags.{is_landing, with_tags, without_tags, status}
 use Rattle.spu_lift.specs.declared.program.SymInst.{SymInst}
 use Rattle.spu_lift.specs.declared.program.Prog.{Prog}
@@ -23,9 +20,8 @@ use Rattle.spu_lift.specs.Places.{instruction_at}
 use Rattle.spu_ideal.specs.declared.rules.TheConstants.{LOADER_TAG, MAX_WAITING}
 use Rattle.spu_ideal.specs.declared.ending.IdealEnd.TheVariants as ending
 use Rattle.spu_ideal.specs.declared.ending.Reason.TheVariants as reason
-use Rattle.spu_lift.specs.declared.symbolic.SymByte.{SymByte}
-use Rattle.spu_lift.specs.declared.symbolic.SymByte.TheVariants.{Num}
-use Rattle.spu_ideal.specs.Bytes.{numbers, number_in, known_word}
+use Rattle.spu_ideal.specs.Bytes.{numbers, known_word}
+use Rattle.spu_ideal.specs.Landing.{Contents, can_land, land, no_image}
 use Rattle.spu_ideal.specs.declared.state.Update.{Update}
 use Rattle.spu_ideal.specs.declared.state.Update.TheVariants.{NoUpdate, Pending, UnknownUpdate}
 use Rattle.spu_ideal.specs.State.{Sym, put, put_word, ends, outside, advances, sets}
@@ -33,40 +29,17 @@ use Rattle.spu_ideal.specs.Accesses.{is_allowed}
 
 -- ---- transfers
 
--- the symbolic machine has no image
-abbrev pub no_image : Stretch
-no_image = record { ea = 0; bytes = [] }
+-- what they read and write of a state
+abbrev pub contents_of : Sym → Contents
+contents_of s = record { store = s.store; areas = s.areas }
 
--- what transfers read and write
-pub record Contents : Type 0 where
-  pub store : ℕ → SymByte
-  pub areas : List Area
+-- these transfers land, in order
+abbrev pub lands : List Transfer → Sym → Sym
+lands ts s = record s { store = (land ts (contents_of s)).store; areas = (land ts (contents_of s)).areas }
 
-abbrev pub before : Option ℕ → Option (List ℕ) → Option (List ℕ)
-before (Some v) (Some vs) = Some (v ∷ vs)
-before _ _ = None
-
--- the n bytes from an address on, where each is a number
-unfoldable pub numbers_from : (ℕ → SymByte) → ℕ → ℕ → Option (List ℕ)
-numbers_from m a zero = Some []
-numbers_from m a (suc n) = before (number_in (m a)) (numbers_from m (a + 1) n)
-
-abbrev pub placed : ℕ → List ℕ → (ℕ → SymByte) → ℕ → SymByte
-placed a bytes m = λ k. if nat_le a k && nat_lt k (a + length bytes) then Num (slice_index bytes (k - a)) else m k
-
-abbrev pub puts : Option (List ℕ) → ℕ → Contents → Option Contents
-puts None ea m = None
-puts (Some bytes) ea m = Some (record m { areas = written ea bytes m.areas })
-
-abbrev pub land_by : Form → Transfer → Contents → Option Contents
-land_by Put t m = puts (numbers_from m.store t.local t.size) t.ea m
-land_by Get t m = Some (record m { store = placed t.local (bytes_at (map stretch_of m.areas) t.ea t.size) m.store })
-
--- transfers land one after another
-unfoldable pub land_all : List Transfer → Option Contents → Option Contents
-land_all [] m = m
-land_all (t ∷ ts) None = None
-land_all (t ∷ ts) (Some m) = land_all ts (land_by t.form t m)
+-- the transfers whose tags pass a test land and wait no more
+abbrev pub lands_tags : (ℕ → Bool) → Sym → Sym
+lands_tags test s = record (lands (with_tags test s.queue) s) { queue = without_tags test s.queue }
 
 -- ---- writes
 
@@ -126,19 +99,15 @@ abbrev pub takes : List ℕ → ℕ → Prog → Sym → Sym
 takes [] t p s = ends ending.Starved s
 takes (word ∷ mail) t p s = advances p s (record s { regs = put t (numbers (quad_of word 0 0 0)) s.regs; mail = mail })
 
-abbrev pub answered : Option Contents → List Transfer → ℕ → Prog → Sym → Sym
-answered None left t p s = outside reason.NotNumber s
-answered (Some m) left t p s = advances p s (record s {
-  store = m.store;
-  areas = m.areas;
-  queue = left;
-  regs = put t (numbers (quad_of (status s.mask left) 0 0 0)) s.regs;
+abbrev pub answered : (ℕ → Bool) → ℕ → Prog → Sym → Sym
+answered test t p s = advances p s (record (lands_tags test s) {
+  regs = put t (numbers (quad_of (status s.mask (without_tags test s.queue)) 0 0 0)) s.regs;
   update = NoUpdate;
 })
 
 -- the tag status, after the transfers have landed whose tags pass a test
 abbrev pub answers_by : (ℕ → Bool) → ℕ → Prog → Sym → Sym
-answers_by test t p s = answered (land_all (with_tags test s.queue) (Some (record { store = s.store; areas = s.areas }))) (without_tags test s.queue) t p s
+answers_by test t p s = if can_land (with_tags test s.queue) (contents_of s) then answered test t p s else outside reason.NotNumber s
 
 abbrev pub answers : Update → ℕ → Prog → Sym → Sym
 answers NoUpdate t p s = ends (ending.BadChannel MFC_RD_TAG_STAT) s

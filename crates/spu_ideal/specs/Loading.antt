@@ -14,7 +14,7 @@ use Rattle.spu_frame.specs.declared.depths.Depths.{Depths}
 use Rattle.spu_frame.specs.Frames.{AreDepths}
 use Rattle.spu_frame.specs.Found.{depth_at, frame_at, function_count}
 use Rattle.spu_graph.specs.Paths.{IsNeed, IsRecursive}
-use Rattle.spu_ideal.specs.Channels.{no_image}
+use Rattle.spu_ideal.specs.Landing.{no_image}
 use Rattle.spu_ideal.specs.Edges.{IsEdge}
 
 -- A well-formed program with its depths, whose graph isn't recursive from the entry; a stack limit that the need of the entry fits; and

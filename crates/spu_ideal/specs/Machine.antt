@@ -33,7 +33,8 @@ use Rattle.spu_ideal.specs.declared.state.OpenCall.{OpenCall}
 use Rattle.spu_ideal.specs.declared.state.Update.TheVariants.{NoUpdate}
 use Rattle.spu_ideal.specs.State.{Sym, put, forgets, ends, outside, goes, advances, sets, IsOutside}
 use Rattle.spu_ideal.specs.Accesses.{address, loads, stores}
-use Rattle.spu_ideal.specs.Channels.{placed, uses_channel}
+use Rattle.spu_ideal.specs.Channels.{uses_channel}
+use Rattle.spu_ideal.specs.Landing.{placed}
 
 -- ---- what an instruction leaves in its register
 

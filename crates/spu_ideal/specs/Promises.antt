@@ -13,7 +13,7 @@ use Rattle.spu_ideal.specs.declared.rules.TheConstants.{LOADER_TAG, MAX_WAITING}
 use Rattle.spu_ideal.specs.Bytes.{is_link}
 use Rattle.spu_ideal.specs.State.{Sym}
 use Rattle.spu_ideal.specs.Accesses.{is_allowed}
-use Rattle.spu_ideal.specs.Channels.{no_image}
+use Rattle.spu_ideal.specs.Landing.{no_image}
 use Rattle.spu_ideal.specs.States.{IsAfter}
 
 -- so many bytes from an address on lie in the data, or in the stack area

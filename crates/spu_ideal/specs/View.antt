@@ -20,7 +20,6 @@ use Rattle.spu_ideal.specs.Edges.{IsEdge}
 use Rattle.spu_ideal.specs.Quads.{quad_bytes}
 use Rattle.spu_ideal.specs.State.{Sym, goes, outside}
 use Rattle.spu_ideal.specs.Accesses.{is_allowed}
-use Rattle.spu_ideal.specs.Channels.{Contents}
 use Rattle.spu_ideal.specs.Machine.{step}
 use Rattle.spu_ideal.specs.declared.ending.Reason.TheVariants as reason
 use Rattle.spu_ideal.specs.States.{IsOf}
@@ -111,10 +110,6 @@ goes_within p f j s = if f == s.f then goes p s.f j s s else outside reason.Targ
 -- the address of a quadword of the local store
 abbrev pub IsQuadAddress : ℕ → Type 0
 IsQuadAddress at = (at % QUAD_SIZE ≡ 0) × (at + QUAD_SIZE ≤ STORE_SIZE)
-
--- what transfers read and write
-abbrev pub contents_of : Sym → Contents
-contents_of s = record { store = s.store; areas = s.areas }
 
 -- so many steps
 unfoldable pub steps : Prog → (ℕ → ℕ) → ℕ → Sym → Sym

@@ -1,23 +1,25 @@
 //! Transfers that land where the status of their tags is read.
 
-ghost use Rattle.std.specs.Prelude.{◌≡◌, ◌+◌, ◌/◌, ◌^◌, ◌<◌, ◌≤◌, ◌==◌, ◌||◌, ℕ, Bool, true, false, not, List, [], length, map, is_some, slice_index, slice_index_or, if◌then◌else◌, Some};
+ghost use Rattle.std.specs.Prelude.{◌≡◌, ◌+◌, ◌/◌, ◌^◌, ◌<◌, ◌≤◌, ◌==◌, ◌||◌, not, [], ◌∷◌, length, if◌then◌else◌};
 ghost use Rattle.spu_word.specs.declared.limits.TheConstants.{QUAD_SIZE, REGISTER_COUNT, STORE_SIZE};
-ghost use Rattle.spu_word.specs.declared.load.Area.{Area};
-ghost use Rattle.spu_exec.specs.declared.channels.TheConstants.{TAG_COUNT};
+ghost use Rattle.spu_exec.specs.declared.transfers.Form.TheVariants.{Get};
 ghost use Rattle.spu_exec.specs.Areas.{bytes_at, with_bytes, first_holding, written};
-ghost use Rattle.spu_exec.specs.Tags.{IsWaiting, AllWaiting, is_landing, with_tags, without_tags};
-ghost use Rattle.spu_exec.specs.Transfers.{stretch_of};
+ghost use Rattle.spu_exec.specs.Tags.{IsWaiting, AllWaiting, has_tag as has_tag_in};
+ghost use Rattle.spu_exec.specs.Transfers.{reached};
 ghost use Rattle.spu_lift.specs.declared.symbolic.SymByte.TheVariants.{Num};
 ghost use Rattle.spu_ideal.specs.Bytes.{is_number as is_number_of};
-ghost use Rattle.spu_ideal.specs.Channels.{Contents, answers, answers_by, land_all, land_by, numbers_from, placed};
+ghost use Rattle.spu_ideal.specs.Channels.{answers, answers_by, lands, lands_tags};
 ghost use Rattle.spu_ideal.specs.Landing.{
+  all_land,
   fills as fills_in,
-  some_fills as some_fills_in,
   is_readable as is_readable_in,
   lands_well as lands_well_in,
-  all_land,
+  no_image,
+  numbers_from,
+  placed,
+  some_fills as some_fills_in,
 };
-ghost use Rattle.spu_ideal.specs.View.{contents_of, state_of, store_of};
+ghost use Rattle.spu_ideal.specs.View.{state_of, store_of};
 
 use crate::byte_moves::{is_number, number_or_zero};
 use crate::ending::{IdealEnd, Reason};
@@ -25,41 +27,13 @@ use crate::ideal::{Ideal, instruction};
 use crate::quads::SymQuad;
 use crate::state::Update;
 use crate::talking::preferred;
-use spu_exec::channels::{MFC_RD_TAG_STAT, TAG_COUNT};
-use spu_exec::{Form, Transfer, holds_range, is_landing, status};
+use spu_exec::channels::MFC_RD_TAG_STAT;
+use spu_exec::{
+    Form, Transfer, bytes_reached, first_holding, has_tag, landing_tags, status, take_landing,
+};
 use spu_lift::{Prog, SymByte};
 use spu_word::limits::QUAD_SIZE;
 use spu_word::{Area, Bytes};
-
-/// How many tags there are, as the size of an array.
-const TAGS: usize = TAG_COUNT as usize;
-
-/// The bytes of a range in the first area that holds it.
-fn bytes_in(areas: &[Area], ea: u64, size: u32) -> &[u8]
-    ensures value { result.now ≡ bytes_at (map stretch_of areas.now) ea size }
-    ensures few { length result.now ≤ size }
-{
-    match areas {
-        [] => &[],
-        [a, rest @ ..] => {
-            if holds_range(ea, size, a.ea, a.bytes.as_slice()) {
-                let at = (ea - a.ea) as usize;
-                &a.bytes.as_slice()[at..at + size as usize]
-            } else {
-                bytes_in(rest, ea, size)
-            }
-        }
-    }
-}
-
-/// The first area that holds a range.
-fn first_holding(areas: &[Area], ea: u64, size: u32) -> Option<usize>
-    ensures { result ≡ first_holding ea size areas.now }
-{
-    areas
-        .iter()
-        .position(|a| holds_range(ea, size, a.ea, a.bytes.as_slice()))
-}
 
 /// The byte at an address.
 fn byte_at(store: &[SymQuad], at: u32) -> SymByte
@@ -98,7 +72,7 @@ fn copy(bytes: &mut Bytes, to: usize, store: &[SymQuad], from: u32, size: u32)
     requires full { length store.now ≡ STORE_SIZE / QUAD_SIZE }
     requires inside { from + size ≤ STORE_SIZE }
     requires room { to + size ≤ length bytes.old }
-    ensures { (numbers : List ℕ) → numbers_from (store_of store.now) from size ≡ Some numbers → bytes.new ≡ with_bytes to numbers bytes.old }
+    ensures { bytes.new ≡ with_bytes to (numbers_from (store_of store.now) from size) bytes.old }
 {
     let _len = bytes.len();
     for k in 0..size {
@@ -110,17 +84,17 @@ fn copy(bytes: &mut Bytes, to: usize, store: &[SymQuad], from: u32, size: u32)
 fn get_from(store: &mut [SymQuad], areas: &[Area], t: &Transfer)
     requires full { length store.old ≡ STORE_SIZE / QUAD_SIZE }
     requires inside { t.now.local + t.now.size ≤ STORE_SIZE }
-    ensures value { store_of store.new ≡ placed t.now.local (bytes_at (map stretch_of areas.now) t.now.ea t.now.size) (store_of store.old) }
+    ensures value { store_of store.new ≡ placed t.now.local (bytes_at (reached Get no_image areas.now) t.now.ea t.now.size) (store_of store.old) }
     ensures len { length store.new ≡ length store.old }
 {
-    place(store, t.local, bytes_in(areas, t.ea, t.size));
+    place(store, t.local, bytes_reached(0, &[], areas, t.ea, t.size));
 }
 
 /// A PUT lands: numbers of the store go into an area.
 fn put_to(areas: &mut [Area], store: &[SymQuad], t: &Transfer)
     requires full { length store.now ≡ STORE_SIZE / QUAD_SIZE }
     requires inside { t.now.local + t.now.size ≤ STORE_SIZE }
-    ensures { (numbers : List ℕ) → numbers_from (store_of store.now) t.now.local t.now.size ≡ Some numbers → areas.new ≡ written t.now.ea numbers areas.old }
+    ensures { areas.new ≡ written t.now.ea (numbers_from (store_of store.now) t.now.local t.now.size) areas.old }
 {
     if let Some(i) = first_holding(areas, t.ea, t.size) {
         let a = &mut areas[i];
@@ -129,37 +103,25 @@ fn put_to(areas: &mut [Area], store: &[SymQuad], t: &Transfer)
     }
 }
 
-/// For each tag, whether transfers with it land where the status is read.
-fn landing_tags(update: u32, mask: u32, queue: &[Transfer]) -> [bool; TAGS]
-    requires { AllWaiting queue.now }
-    ensures { (tag : ℕ) → tag < TAG_COUNT → slice_index_or result tag false ≡ is_landing update mask queue.now tag }
-{
-    let mut tags = [false; TAGS];
-    for tag in 0..TAG_COUNT {
-        tags[tag as usize] = is_landing(update, mask, queue, tag);
-    }
-    tags
-}
-
 /// Whether a transfer lands that fills the byte at an address with a number.
-fn fills(tags: [bool; TAGS], areas: &[Area], t: &Transfer, at: u32) -> bool
+fn fills(tags: u32, areas: &[Area], t: &Transfer, at: u32) -> bool
     requires { IsWaiting t.now }
-    ensures { result ≡ fills_in (λ tag. slice_index_or tags tag false) areas.now t.now at }
+    ensures { result ≡ fills_in (has_tag_in tags) areas.now t.now at }
 {
     match t.form {
         Form::Put => false,
         Form::Get => {
-            tags[t.tag as usize]
+            has_tag(tags, t.tag)
                 && t.local <= at
-                && ((at - t.local) as usize) < bytes_in(areas, t.ea, t.size).len()
+                && ((at - t.local) as usize) < bytes_reached(0, &[], areas, t.ea, t.size).len()
         }
     }
 }
 
 /// Whether one of some transfers does.
-fn some_fills(tags: [bool; TAGS], areas: &[Area], queue: &[Transfer], at: u32) -> bool
+fn some_fills(tags: u32, areas: &[Area], queue: &[Transfer], at: u32) -> bool
     requires { AllWaiting queue.now }
-    ensures { result ≡ some_fills_in (λ tag. slice_index_or tags tag false) areas.now queue.now at }
+    ensures { result ≡ some_fills_in (has_tag_in tags) areas.now queue.now at }
 {
     for t in queue {
         if fills(tags, areas, t, at) {
@@ -172,7 +134,7 @@ fn some_fills(tags: [bool; TAGS], areas: &[Area], queue: &[Transfer], at: u32) -
 /// Whether the byte at an address is no number behind the landing of some transfers.
 fn is_missing(
     store: &[SymQuad],
-    tags: [bool; TAGS],
+    tags: u32,
     areas: &[Area],
     before: &[Transfer],
     at: u32,
@@ -180,7 +142,7 @@ fn is_missing(
     requires full { length store.now ≡ STORE_SIZE / QUAD_SIZE }
     requires before { AllWaiting before.now }
     requires inside { at < STORE_SIZE }
-    ensures { result ≡ not (is_number_of (store_of store.now at) || some_fills_in (λ tag. slice_index_or tags tag false) areas.now before.now at) }
+    ensures { result ≡ not (is_number_of (store_of store.now at) || some_fills_in (has_tag_in tags) areas.now before.now at) }
 {
     !(is_number(byte_at(store, at)) || some_fills(tags, areas, before, at))
 }
@@ -188,7 +150,7 @@ fn is_missing(
 /// Whether each byte of a PUT is a number as it lands, behind the transfers before it.
 fn is_readable(
     store: &[SymQuad],
-    tags: [bool; TAGS],
+    tags: u32,
     areas: &[Area],
     before: &[Transfer],
     t: &Transfer,
@@ -196,7 +158,7 @@ fn is_readable(
     requires full { length store.now ≡ STORE_SIZE / QUAD_SIZE }
     requires before { AllWaiting before.now }
     requires inside { t.now.local + t.now.size ≤ STORE_SIZE }
-    ensures { result ≡ is_readable_in (store_of store.now) (λ tag. slice_index_or tags tag false) areas.now before.now t.now.local t.now.size }
+    ensures { result ≡ is_readable_in (store_of store.now) (has_tag_in tags) areas.now before.now t.now.local t.now.size }
 {
     for k in 0..t.size {
         if is_missing(store, tags, areas, before, t.local + k) {
@@ -209,7 +171,7 @@ fn is_readable(
 /// Whether a transfer that waits can land, behind the transfers before it.
 fn lands_well(
     store: &[SymQuad],
-    tags: [bool; TAGS],
+    tags: u32,
     areas: &[Area],
     before: &[Transfer],
     t: &Transfer,
@@ -217,10 +179,10 @@ fn lands_well(
     requires full { length store.now ≡ STORE_SIZE / QUAD_SIZE }
     requires before { AllWaiting before.now }
     requires waiting { IsWaiting t.now }
-    ensures { result ≡ lands_well_in (store_of store.now) (λ tag. slice_index_or tags tag false) areas.now before.now t.now }
+    ensures { result ≡ lands_well_in (store_of store.now) (has_tag_in tags) areas.now before.now t.now }
 {
     match t.form {
-        Form::Put => !tags[t.tag as usize] || is_readable(store, tags, areas, before, t),
+        Form::Put => !has_tag(tags, t.tag) || is_readable(store, tags, areas, before, t),
         Form::Get => true,
     }
 }
@@ -228,7 +190,7 @@ fn lands_well(
 /// Whether a transfer that waits can't land, behind the transfers before it.
 fn lands_ill(
     store: &[SymQuad],
-    tags: [bool; TAGS],
+    tags: u32,
     areas: &[Area],
     before: &[Transfer],
     t: &Transfer,
@@ -236,16 +198,16 @@ fn lands_ill(
     requires full { length store.now ≡ STORE_SIZE / QUAD_SIZE }
     requires before { AllWaiting before.now }
     requires waiting { IsWaiting t.now }
-    ensures { result ≡ not (lands_well_in (store_of store.now) (λ tag. slice_index_or tags tag false) areas.now before.now t.now) }
+    ensures { result ≡ not (lands_well_in (store_of store.now) (has_tag_in tags) areas.now before.now t.now) }
 {
     !lands_well(store, tags, areas, before, t)
 }
 
 /// Whether all transfers with these tags can land, in order.
-fn can_land(store: &[SymQuad], tags: [bool; TAGS], areas: &[Area], queue: &[Transfer]) -> bool
+fn can_land(store: &[SymQuad], tags: u32, areas: &[Area], queue: &[Transfer]) -> bool
     requires full { length store.now ≡ STORE_SIZE / QUAD_SIZE }
     requires waiting { AllWaiting queue.now }
-    ensures { result ≡ all_land (store_of store.now) (λ tag. slice_index_or tags tag false) areas.now [] queue.now }
+    ensures { result ≡ all_land (store_of store.now) (has_tag_in tags) areas.now [] queue.now }
 {
     for k in 0..queue.len() {
         if lands_ill(store, tags, areas, &queue[..k], &queue[k]) {
@@ -259,7 +221,7 @@ impl Ideal {
     /// A transfer that waits lands, but stays in the queue.
     fn land(&mut self, t: &Transfer)
         requires { IsWaiting t.now }
-        ensures exact { (m : Contents) → land_by t.now.form t.now (contents_of (state_of self.old)) ≡ Some m → state_of self.new ≡ record (state_of self.old) { store = m.store; areas = m.areas } }
+        ensures exact { state_of self.new ≡ lands (t.now ∷ []) (state_of self.old) }
         ensures queue { self.new.queue.items ≡ self.old.queue.items }
         ensures count { self.new.steps ≡ self.old.steps }
         ensures room { self.new.most_calls ≡ self.old.most_calls }
@@ -271,30 +233,22 @@ impl Ideal {
     }
 
     /// The transfers with these tags land, in order, and leave the queue.
-    fn land_tags(&mut self, tags: [bool; TAGS])
-        ensures exact { (m : Contents) → land_all (with_tags (λ tag. slice_index_or tags tag false) (state_of self.old).queue) (Some (contents_of (state_of self.old))) ≡ Some m
-            → state_of self.new ≡ record (state_of self.old) { store = m.store; areas = m.areas; queue = without_tags (λ tag. slice_index_or tags tag false) (state_of self.old).queue } }
+    fn land_tags(&mut self, tags: u32)
+        ensures exact { state_of self.new ≡ lands_tags (has_tag_in tags) (state_of self.old) }
         ensures count { self.new.steps ≡ self.old.steps }
         ensures room { self.new.most_calls ≡ self.old.most_calls }
     {
-        let mut i = 0;
-        while i < self.queue.len() {
-            let t = self.queue[i];
-            if tags[t.tag as usize] {
-                let _ = self.queue.remove(i);
-                self.land(&t);
-            } else {
-                i += 1;
-            }
+        while let Some(t) = take_landing(&mut self.queue, tags) {
+            self.land(&t);
         }
     }
 
     /// Takes the status of the tags, after the transfers with these have landed.
-    fn answer_after(&mut self, p: &Prog, tags: [bool; TAGS], r: u8)
+    fn answer_after(&mut self, p: &Prog, tags: u32, r: u8)
         requires register { r < REGISTER_COUNT }
         requires near { self.old.i + 1 < 2 ^ 32 }
         requires count { self.old.steps + 1 < 2 ^ 64 }
-        ensures exact { state_of self.new ≡ answers_by (λ tag. slice_index_or tags tag false) r p.now (state_of self.old) }
+        ensures exact { state_of self.new ≡ answers_by (has_tag_in tags) r p.now (state_of self.old) }
         ensures count { self.new.steps ≡ self.old.steps + 1 }
         ensures room { self.new.most_calls ≡ self.old.most_calls }
     {

@@ -4,20 +4,20 @@ use Rattle.std.specs.Prelude.{⊤, ◌&&◌, not, nat_le, nat_lt, slice_index, s
 use Rattle.std.specs.List.{All, list_any, position_or_len}
 use Rattle.std.proofs.Math.ListN.{set}
 use Rattle.std.proofs.lemmas.Bool.{cond_both}
-use Rattle.std.proofs.lemmas.List.{length-append, length-take-le, length-drop}
 use Rattle.std.proofs.lemmas.List.Elements.{All-append, All-drop, All-take, All-head, All-tail, All-nil, All-set, All-cons}
 use Rattle.std.proofs.lemmas.List.Quantifiers.{position-Some}
 use Rattle.spu_word.specs.declared.load.Area.{Area}
 use Rattle.spu_exec.specs.declared.transfers.Form.{Form}
 use Rattle.spu_exec.specs.declared.transfers.Form.TheVariants.{Put, Get}
 use Rattle.spu_exec.specs.declared.transfers.Transfer.{Transfer}
-use Rattle.spu_exec.specs.Transfers.{Stretch, stretch_of, holds_range, is_taken, reached, some_holds}
+use Rattle.spu_exec.specs.Transfers.{Stretch, stretch_of, holds_range, is_taken}
 use Rattle.spu_exec.specs.Areas.{bytes_at, with_bytes, first_holding, area_with, written_in, written}
 use Rattle.spu_ls.specs.Stores.{Store, bytes_from, placed}
+use Rattle.spu_exec.specs.Landing as landing
 use Rattle.spu_ls.specs.Landing.{Memory, land_by, land}
 use Rattle.spu_exec.specs.Admission.{shares, first_overlap, is_in_range, first_unfit}
 use Rattle.spu_ls.specs.Sound.{AreBytes, AreTaken, IsSoundMemory}
-use Rattle.spu_ls.proofs.Landed.{holds_from}
+use Rattle.spu_exec.proofs.AreaWrites.{length-area_with, same_taken}
 
 -- ---- bytes
 
@@ -115,34 +115,10 @@ unfit_or_len (x ∷ xs) (y ∷ ys) h = rw (range_alike x y h.0, unfit_or_len xs 
 unfit_alike : (xs ys : List Area) → AllAlike xs ys → first_unfit xs ≡ first_unfit ys
 unfit_alike xs ys h = rw (unfit_or_len xs ys h, alike_length xs ys h) refl
 
-holds_alike : (ea n : ℕ) (xs ys : List Area) → AllAlike xs ys → some_holds ea n (map stretch_of xs) ≡ some_holds ea n (map stretch_of ys)
-holds_alike ea n [] [] h = refl
-holds_alike ea n [] (y ∷ ys) h = absurd h
-holds_alike ea n (x ∷ xs) [] h = absurd h
-holds_alike ea n (x ∷ xs) (y ∷ ys) h =
-    let here : holds_range ea n (stretch_of x) ≡ holds_range ea n (stretch_of y) = rw (h.0.ea, h.0.size) refl in
-    rw (here, holds_alike ea n xs ys h.1) refl
-
-reached_alike : (form : Form) (image : Stretch) (xs ys : List Area) (ea n : ℕ) → AllAlike xs ys → some_holds ea n (reached form image xs) ≡ some_holds ea n (reached form image ys)
-reached_alike Put image xs ys ea n h = holds_alike ea n xs ys h
-reached_alike Get image xs ys ea n h = rw (holds_alike ea n xs ys h) refl
-
 -- ---- bytes that are written to areas
 
-with_length : (at : ℕ) (bytes old : List ℕ) → at + length bytes ≤ length old → length (with_bytes at bytes old) ≡ length old
-with_length at bytes old le =
-    length-append (take at old) (bytes ++ drop (at + length bytes) old) ∙
-    (let a = length-take-le at old (omega arith) in
-    let b = length-append bytes (drop (at + length bytes) old) in
-    let c = length-drop (at + length bytes) old in
-    omega (arith, a, b, c))
-
 area_alike : (ea : ℕ) (bytes : List ℕ) (a : Area) → holds_range ea (length bytes) (stretch_of a) ≡ true → Alike (area_with ea bytes a) a
-area_alike ea bytes a e =
-    let h = holds_from ea (length bytes) a e in
-    let low = h.0 in
-    let high = h.1 in
-    record { ea = refl; size = with_length (ea - a.ea) bytes a.bytes (omega arith) }
+area_alike ea bytes a e = record { ea = refl; size = length-area_with ea bytes a e }
 
 abbrev no_area : Area
 no_area = record { name = []; ea = 0; bytes = [] }
@@ -182,21 +158,18 @@ one_sound Get image t g h = record {
 }
 
 pub land_sound : (image : Stretch) (ts : List Transfer) (g : Memory) → IsSoundMemory image g → IsSoundMemory image (land image ts g)
-unfolding land
+unfolding landing.land
 land_sound image [] g h = h
 land_sound image (t ∷ ts) g h = land_sound image ts (land_by t.form image t g) (one_sound t.form image t g h)
 
 -- ---- transfers that wait as others land
 
 one_taken : (form : Form) (image : Stretch) (u : Transfer) (g : Memory) (t : Transfer) → is_taken image g.areas t ≡ true → is_taken image (land_by form image u g).areas t ≡ true
-one_taken Put image u g t e =
-    let bytes : List ℕ = bytes_from g.store u.local u.size in
-    let same = written_alike (first_holding u.ea (length bytes) g.areas) u.ea bytes g.areas refl in
-    rw (reached_alike t.form image (written u.ea bytes g.areas) g.areas t.ea t.size same) e
+one_taken Put image u g t e = same_taken image u.ea (bytes_from g.store u.local u.size) g.areas t e
 one_taken Get image u g t e = e
 
 pub land_taken : (image : Stretch) (ts : List Transfer) (g : Memory) (t : Transfer) → is_taken image g.areas t ≡ true → is_taken image (land image ts g).areas t ≡ true
-unfolding land
+unfolding landing.land
 land_taken image [] g t e = e
 land_taken image (u ∷ ts) g t e = land_taken image ts (land_by u.form image u g) t (one_taken u.form image u g t e)
 

@@ -3,10 +3,9 @@
 ghost use Rattle.std.specs.Prelude.{◌≡◌, ◌≢◌, ◌↔◌, ◌⊎◌, ◌+◌, ◌*◌, ◌/◌, ◌%◌, ◌^◌, ◌<◌, ◌≤◌, ℕ, true, false, List, [], ◌∷◌, slice_index_or, length, vec_len, vec_capacity, IfOk, IfSome, Option, Some, None};
 ghost use Rattle.spu_exec.specs.Places.{code_mask, place};
 ghost use Rattle.spu_word.specs.declared.limits.TheConstants.{OUTBOX_SIZE, QUAD_SIZE, QUEUE_SIZE, REGISTER_COUNT, STORE_SIZE, WORD_SIZE};
-ghost use Rattle.spu_exec.specs.declared.channels.TheConstants.{TAG_COUNT};
 ghost use Rattle.spu_exec.specs.Channels.{count_of as count_in_table};
 ghost use Rattle.spu_exec.specs.Transfers.{form_of};
-ghost use Rattle.spu_exec.specs.Tags.{is_landing, IsWaiting, AllWaiting};
+ghost use Rattle.spu_exec.specs.Tags.{has_tag, IsWaiting, AllWaiting};
 ghost use Rattle.spu_word.specs.Bytes.{word_of};
 ghost use Rattle.spu_isa.specs.declared.operation.Kind.{Kind};
 ghost use Rattle.spu_isa.specs.declared.operation.Kind.TheVariants as kind;
@@ -26,11 +25,10 @@ use spu_elf::Symbol;
 use spu_exec::areas::copied_areas;
 use spu_exec::channels::{
     INBOX_SIZE, MFC_CMD, MFC_EAH, MFC_EAL, MFC_LSA, MFC_RD_TAG_MASK, MFC_RD_TAG_STAT, MFC_SIZE,
-    MFC_TAG_ID, MFC_WR_TAG_MASK, MFC_WR_TAG_UPDATE, SPU_RD_IN_MBOX, SPU_WR_OUT_MBOX, TAG_COUNT,
-    count_of, is_counted, is_update,
+    MFC_TAG_ID, MFC_WR_TAG_MASK, MFC_WR_TAG_UPDATE, SPU_RD_IN_MBOX, SPU_WR_OUT_MBOX, count_of, is_counted, is_update,
 };
 use spu_exec::{
-    Form, Transfer, address, apply_to, form_of, halts, is_landing, is_taken, quad_for, status, test,
+    Form, Transfer, address, apply_to, form_of, halts, is_taken, landing_tags, quad_for, status, take_landing, test,
 };
 use spu_isa::{Inst, Kind, Op, decode};
 use spu_word::limits::{OUTBOX_SIZE, QUEUE_SIZE, REGISTER_COUNT, STORE_SIZE, WORD_SIZE};
@@ -39,9 +37,6 @@ use std::alloc::Global;
 
 /// The words of the local store.
 const WORD_COUNT: u32 = STORE_SIZE / WORD_SIZE;
-
-/// How many tags there are, as the size of an array.
-const TAGS: usize = TAG_COUNT as usize;
 
 /// An SPU: its local store, registers and channels. It is loaded with an executable and takes no memory after that.
 #[derive(Drop)]
@@ -86,18 +81,6 @@ fn code_word(address: u32) -> u32
     ensures inside { result + WORD_SIZE ≤ STORE_SIZE }
 {
     address / WORD_SIZE % WORD_COUNT * WORD_SIZE
-}
-
-/// For each tag, whether transfers with it land where the status is read.
-fn landing_tags(update: u32, mask: u32, queue: &[Transfer]) -> [bool; TAGS]
-    requires { AllWaiting queue.now }
-    ensures { (tag : ℕ) → tag < TAG_COUNT → slice_index_or result tag false ≡ is_landing update mask queue.now tag }
-{
-    let mut tags = [false; TAGS];
-    for tag in 0..TAG_COUNT {
-        tags[tag as usize] = is_landing(update, mask, queue, tag);
-    }
-    tags
 }
 
 impl Machine {
@@ -381,19 +364,12 @@ impl Machine {
     }
 
     /// The transfers with these tags land, in order, and leave the queue.
-    fn land_tags(&mut self, tags: [bool; TAGS])
-        ensures exact { state_of self.new ≡ lands_tags (λ tag. slice_index_or tags tag false) (state_of self.old) }
+    fn land_tags(&mut self, tags: u32)
+        ensures exact { state_of self.new ≡ lands_tags (has_tag tags) (state_of self.old) }
         ensures count { self.new.steps ≡ self.old.steps }
     {
-        let mut i = 0;
-        while i < self.queue.len() {
-            let t = self.queue[i];
-            if tags[t.tag as usize] {
-                let _ = self.queue.remove(i);
-                self.land(&t);
-            } else {
-                i += 1;
-            }
+        while let Some(t) = take_landing(&mut self.queue, tags) {
+            self.land(&t);
         }
     }
 

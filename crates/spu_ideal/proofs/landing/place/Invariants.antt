@@ -1,5 +1,5 @@
 use Rattle.std.proofs.Common.{◌≡◌, take}
-use Rattle.spu_ideal.specs.Channels.{placed}
+use Rattle.spu_ideal.specs.Landing.{placed}
 use Rattle.spu_ideal.specs.View.{store_of}
 use Rattle.spu_ideal.proofs.landing.place.Given as goal
 

@@ -5,7 +5,7 @@ use Rattle.spu_word.specs.declared.load.Area.{Area}
 use Rattle.spu_exec.specs.Admission.{is_area, is_in_range}
 use Rattle.spu_exec.proofs.Admission.{overlap_below}
 use Rattle.spu_lift.specs.declared.program.Ear.{Ear}
-use Rattle.spu_ideal.specs.Channels.{no_image}
+use Rattle.spu_ideal.specs.Landing.{no_image}
 use Rattle.spu_ideal.proofs.loading.refusal.Goals as goal
 
 pub unresolved-requires : goal.unresolved-requires
