@@ -12,7 +12,7 @@ use Rattle.spu_exec.specs.declared.transfers.Transfer.{Transfer}
 use Rattle.spu_exec.specs.Transfers.{Stretch, stretch_of, is_size, is_shaped, holds_range, some_holds, reached, is_taken}
 use Rattle.spu_exec.specs.Areas.{bytes_at}
 use Rattle.spu_exec.specs.Admission.{shares}
-use Rattle.spu_ideal.specs.Channels.{no_image}
+use Rattle.spu_ideal.specs.Landing.{no_image}
 use Rattle.spu_ideal.proofs.Areas.{or_true}
 use Rattle.spu_image.proofs.Sound.{IsApartFrom}
 
@@ -47,7 +47,7 @@ not_image image (a ∷ areas) ea n apart some e = elim (or_true (holds_range ea 
   | inr later ↦ not_image image areas ea n apart.1 some later
 ]
 
-none_held : (ea n : ℕ) → 1 ≤ n → holds_range ea n no_image ≡ false
+pub none_held : (ea n : ℕ) → 1 ≤ n → holds_range ea n no_image ≡ false
 none_held ea n some = grind (arith, nat_tests)
 
 -- the parts of what a transfer must be

@@ -27,7 +27,9 @@ use Rattle.spu_ideal.specs.Bytes.{numbers, known_word}
 use Rattle.spu_ideal.specs.declared.state.Update.{Update}
 use Rattle.spu_ideal.specs.declared.state.Update.TheVariants.{NoUpdate, Pending, UnknownUpdate}
 use Rattle.spu_ideal.specs.State.{Sym, put, put_word, ends, advances}
-use Rattle.spu_ideal.specs.Channels.{Contents, no_image, land_all, knows_transfer, transfer_by, is_free, waits_last, is_within, commands, writes_word, writes_known, writes, answered, answers, takes, reads, uses_channel}
+use Rattle.spu_ideal.specs.Landing.{can_land, no_image}
+use Rattle.spu_ideal.specs.Landing as symbolic
+use Rattle.spu_ideal.specs.Channels.{contents_of, lands_tags, knows_transfer, transfer_by, is_free, waits_last, is_within, commands, writes_word, writes_known, writes, answered, answers_by, answers, takes, reads, uses_channel}
 use Rattle.spu_layout.specs.Layouts.{Layout, IsLaid}
 use Rattle.spu_image.specs.Agreeing.{AgreesQuad}
 use Rattle.spu_layout.specs.Labels.{code}
@@ -164,16 +166,16 @@ module _ (p : Prog) (limit : ℕ) (l : Layout) (laid : IsLaid p limit l) (frames
 
     -- ---- reads
 
-    landed_hop : (c : Contents) (left : List Transfer) (t : ℕ) (g : Memory) → Landed l (record { store = m.store; areas = m.areas }) c g → Inside (answered (Some c) left t p s)
-        → Stepped l s.f m (answered (Some c) left t p s)
-        (record m { store = g.store; areas = g.areas; queue = left; regs = machine.put t (quad_of (status (m.channels 22) left) 0 0 0) m.regs; update = None; pc = next; steps = m.steps + 1 })
-    landed_hop c left t g landed =
+    landed_hop : (test : ℕ → Bool) (t : ℕ) (g : Memory) → Landed l (record { store = m.store; areas = m.areas }) (symbolic.land (with_tags test s.queue) (contents_of s)) g → Inside (answered test t p s)
+        → Stepped l s.f m (answered test t p s)
+        (record m { store = g.store; areas = g.areas; queue = without_tags test s.queue; regs = machine.put t (quad_of (status (m.channels 22) (without_tags test s.queue)) 0 0 0) m.regs; update = None; pc = next; steps = m.steps + 1 })
+    landed_hop test t g landed =
         going p limit l laid frames s m matched sound high x here
-        (record s { store = c.store; areas = c.areas; queue = left; regs = put t (numbers (quad_of (status s.mask left) 0 0 0)) s.regs; update = NoUpdate }) _ s.f (s.i + 1) (instruction_at p s.f (s.i + 1)) refl (λ y h. record {
+        (record (lands_tags test s) { regs = put t (numbers (quad_of (status s.mask (without_tags test s.queue)) 0 0 0)) s.regs; update = NoUpdate }) _ s.f (s.i + 1) (instruction_at p s.f (s.i + 1)) refl (λ y h. record {
           function = refl;
           matched = record {
             place = next_is p limit l laid frames s m matched sound high x here;
-            regs = λ r. agrees_cond (code l) (r == t) _ _ _ _ (subst (λ k. AgreesQuad (code l) (numbers (quad_of (status s.mask left) 0 0 0)) (quad_of (status k left) 0 0 0)) (sym matched.mask) (agrees_numbers (code l) (quad_of (status s.mask left) 0 0 0))) (matched.regs r);
+            regs = λ r. agrees_cond (code l) (r == t) _ _ _ _ (subst (λ k. AgreesQuad (code l) (numbers (quad_of (status s.mask (without_tags test s.queue)) 0 0 0)) (quad_of (status k (without_tags test s.queue)) 0 0 0)) (sym matched.mask) (agrees_numbers (code l) (quad_of (status s.mask (without_tags test s.queue)) 0 0 0))) (matched.regs r);
             store = landed.alike.store;
             channels = matched.channels;
             mask = matched.mask;
@@ -199,14 +201,13 @@ module _ (p : Prog) (limit : ℕ) (l : Layout) (laid : IsLaid p limit l) (frames
       steps = m.steps + 1;
     }
 
-    lands_hop : (o : Option Contents) (test : ℕ → Bool) (t : ℕ) → land_all (with_tags test s.queue) (Some (record { store = s.store; areas = s.areas })) ≡ o
-        → Inside (answered o (without_tags test s.queue) t p s) → Stepped l s.f m (answered o (without_tags test s.queue) t p s) (answered_real test s.queue t)
-    lands_hop None test t is inside = absurd (inside tt)
-    lands_hop (Some c) test t is inside =
-        landed_hop c (without_tags test s.queue) t (land m.image (with_tags test s.queue) (record { store = m.store; areas = m.areas }))
-        (all_land p limit l laid m.image (with_tags test s.queue) (record { store = s.store; areas = s.areas }) c (record { store = m.store; areas = m.areas })
+    lands_hop : (test : ℕ → Bool) (t : ℕ) → Inside (answers_by test t p s) → Stepped l s.f m (answers_by test t p s) (answered_real test s.queue t)
+    lands_hop test t =
+        unless_outside (Stepped l s.f m) (can_land (with_tags test s.queue) (contents_of s)) _ _ _ tt
+        (λ can. landed_hop test t (land m.image (with_tags test s.queue) (record { store = m.store; areas = m.areas }))
+        (all_land p limit l laid m.image (with_tags test s.queue) (contents_of s) (record { store = m.store; areas = m.areas })
         (record { areas = matched.areas; store = matched.store }) sound.memory
-        (all_filter (IsSafe p limit s.areas) (λ u. test u.tag) s.queue high.waiting.safe) is) inside
+        (all_filter (IsSafe p limit s.areas) (λ u. test u.tag) s.queue high.waiting.safe) can))
 
     answers_hop : (u : Update) (t : ℕ) → AgreesUpdate u m.update → Inside (answers u t p s) → Stepped l s.f m (answers u t p s) (machine.answers m.update t next m)
     answers_hop NoUpdate t e inside =
@@ -217,7 +218,7 @@ module _ (p : Prog) (limit : ℕ) (l : Layout) (laid : IsLaid p limit l) (frames
         subst (λ u. Stepped l s.f m (answers (Pending v) t p s) (machine.answers u t next m)) (sym e)
         (subst (λ q. Stepped l s.f m (answers (Pending v) t p s) (answered_real (is_landing v (m.channels 22) q) q t)) (sym matched.queue)
         (subst (λ k. Stepped l s.f m (answers (Pending v) t p s) (answered_real (is_landing v k s.queue) s.queue t)) (sym matched.mask)
-        (lands_hop _ (is_landing v s.mask s.queue) t refl inside)))
+        (lands_hop (is_landing v s.mask s.queue) t inside)))
 
     reads_hop : (n t : ℕ) → Inside (reads n t p s) → Stepped l s.f m (reads n t p s) (machine.reads n t next m)
     reads_hop n t =

@@ -19,7 +19,8 @@ use Rattle.spu_ls.specs.Start as starting
 use Rattle.spu_ls.specs.declared.ending.RunEnd.TheVariants as machine
 use Rattle.spu_ideal.specs.Bytes.{is_link, known_word, are_parts}
 use Rattle.spu_ideal.specs.Results.{are_known, computed_byte, symbolic_byte, label_value_byte}
-use Rattle.spu_ideal.specs.Channels.{land_all, numbers_from}
+use Rattle.spu_exec.specs.Landing.{land}
+use Rattle.spu_ideal.specs.Landing.{are_numbers, can_land, numbers_from}
 use Rattle.spu_ideal.specs.Machine.{with_entries, run, start, step, IsInside}
 use Rattle.spu_ideal.specs.State.{Sym, IsOutside}
 use Rattle.spu_ideal.specs.Samples.{nothing, tours, tour_frames, with_fields}
@@ -48,11 +49,11 @@ record IsEntered (s : Sym) : Type 0 where
   link : is_link 1 4 (s.regs 0) ≡ true
 
 entered : IsEntered (tour 5)
-unfolding run start step with_entries are_known computed_byte symbolic_byte label_value_byte are_parts land_all numbers_from status
+unfolding run start step with_entries are_known computed_byte symbolic_byte label_value_byte are_parts land can_land are_numbers numbers_from status
 entered = record { f = refl; i = refl; pointer = refl; label = refl; link = refl }
 
 enters_inside : IsInside tours tour_frames 16384 nothing 5
-unfolding run start step with_entries are_known computed_byte symbolic_byte label_value_byte are_parts land_all numbers_from status
+unfolding run start step with_entries are_known computed_byte symbolic_byte label_value_byte are_parts land can_land are_numbers numbers_from status
 enters_inside o = o
 
 stops_inside : IsInside tours tour_frames 16384 nothing 23

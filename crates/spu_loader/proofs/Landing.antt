@@ -12,6 +12,7 @@ use Rattle.spu_exec.specs.declared.transfers.Form.TheVariants.{Get}
 use Rattle.spu_exec.specs.declared.transfers.Transfer.{Transfer}
 use Rattle.spu_exec.specs.Transfers.{Stretch, holds_range, stretch_of, reached}
 use Rattle.spu_exec.specs.Areas.{bytes_at}
+use Rattle.spu_exec.specs.Landing as landing
 use Rattle.spu_ls.specs.Landing.{Memory, land, land_by}
 use Rattle.spu_exec.specs.Tags.{has_tag, waits, is_landing, with_tags, without_tags}
 use Rattle.spu_loader.proofs.Stores.{placed_other, placed_inside}
@@ -42,11 +43,11 @@ got image at size off m fits =
     }
 
 land_one : (image : Stretch) (t : Transfer) (m : Memory) → land image (t ∷ []) m ≡ land_by t.form image t m
-unfolding land
+unfolding landing.land
 land_one image t m = refl
 
 land_more : (image : Stretch) (t : Transfer) (ts : List Transfer) (m : Memory) → land image (t ∷ ts) m ≡ land image ts (land_by t.form image t m)
-unfolding land
+unfolding landing.land
 land_more image t ts m = refl
 
 -- a part, and the part behind it
