@@ -18,7 +18,8 @@ use Rattle.spu_elf.specs.declared.objects.Symbol.{Symbol}
 use Rattle.spu_elf.specs.declared.executables.Exec.{Exec}
 use Rattle.spu_elf.proofs.ExecutableFields.{IsBytes, both_pass, not_failing, was_true, bytes_stand, stands_part, stands_reaches, stands_right, stands_all}
 use Rattle.spu_elf.proofs.ExecutableWhole.{exec_back}
-use Rattle.spu_cesof.specs.Embedding.{is_entry, entry_names, handle_bytes, handle_relocs, toe_relocs, embedding}
+use Rattle.spu_elf.specs.Entries.{is_entry}
+use Rattle.spu_cesof.specs.Embedding.{entry_names, handle_bytes, handle_relocs, toe_relocs, embedding}
 use Rattle.spu_cesof.specs.Outline.{section_count, symbols_number, sections_in, places_in, image_of, symbols_row}
 use Rattle.spu_cesof.specs.Unpacking.{names_in, name_in, entry_names_in, joined, front_check, heads_check, padding_check, symbols_check, strings_check, end_check, object_check, handle_check, toe_check, found, ◌or_else◌, fault_with, cesof_fault, image_in}
 use Rattle.spu_cesof.specs.Answers.{IsEmbedded}

@@ -24,7 +24,8 @@ use Rattle.spu_elf.proofs.ExtentLemmas.{few_exec_symbols}
 use Rattle.spu_elf.proofs.ExecutableParts.{ended_name}
 use Rattle.spu_elf.proofs.ExecutableRound.{spelled_passes, spelled_is}
 use Rattle.spu_elf.proofs.ExecutableSpelling.{place_of, entry_text, entries_text, table_is}
-use Rattle.spu_cesof.specs.Embedding.{is_entry, is_object, entry_names, handle_bytes, handle_relocs, toe_relocs, section_symbol, handle_symbol, entry_symbol, named_symbols, object_symbols, embedding}
+use Rattle.spu_elf.specs.Entries.{is_entry, is_object}
+use Rattle.spu_cesof.specs.Embedding.{entry_names, handle_bytes, handle_relocs, toe_relocs, section_symbol, handle_symbol, entry_symbol, named_symbols, object_symbols, embedding}
 use Rattle.spu_cesof.specs.Outline.{section_count, symbols_number, places_with, image_of, section_names, symbols_row}
 use Rattle.spu_cesof.specs.Unpacking.{names_in, strings_in, name_in, entry_names_in, joined, front_check, padding_check, symbol_check, named_check, named_checks, section_symbols_check, symbols_check, names_check, strings_check, object_check, handle_check, toe_check, found, ◌or_else◌, fault_with}
 use Rattle.spu_cesof.specs.Answers.{Unpacks}

@@ -1,9 +1,8 @@
 -- The object for the PowerPC that an executable of the SPU is embedded in. CBE Embedded SPU Object Format, "Embedding"; System V ELF,
 -- "Object Files". Three sections hold the executable's file, the table of effective addresses with an entry for each `_EAR_` symbol
 -- of the executable, and the handle, by whose name programs refer to both.
-use Rattle.std.specs.Prelude.{◌≡◌, ℕ, pos, ◌+◌, ◌*◌, ◌≤◌, ◌&&◌, Bool, true, false, List, [], ◌∷◌, ◌++◌, length, take, drop, map, replicate, codes, nat_lt, if◌then◌else◌}
+use Rattle.std.specs.Prelude.{◌≡◌, ℕ, pos, ◌+◌, ◌*◌, ◌≤◌, true, false, List, [], ◌∷◌, ◌++◌, length, map, replicate, codes, if◌then◌else◌}
 use Rattle.std.specs.List.{flat_map}
-use Rattle.std.specs.Str.{bytes_eq}
 use Rattle.spu_word.specs.Bytes.{be_digits}
 use Rattle.spu_word.specs.declared.limits.TheConstants.{MAX_FILE_SIZE}
 use Rattle.spu_elf.specs.declared.constants.TheConstants.{EM_PPC}
@@ -11,30 +10,22 @@ use Rattle.spu_elf.specs.declared.objects.Section.{Section}
 use Rattle.spu_elf.specs.declared.objects.SecKind.{SecKind}
 use Rattle.spu_elf.specs.declared.objects.SecKind.TheVariants as sections
 use Rattle.spu_elf.specs.declared.objects.Symbol.{Symbol}
-use Rattle.spu_elf.specs.declared.objects.SymKind.{SymKind}
 use Rattle.spu_elf.specs.declared.objects.SymKind.TheVariants as kinds
 use Rattle.spu_elf.specs.declared.objects.SymPlace.TheVariants as places
 use Rattle.spu_elf.specs.declared.objects.Reloc.{Reloc}
 use Rattle.spu_elf.specs.declared.objects.Object.{Object}
 use Rattle.spu_elf.specs.declared.executables.Exec.{Exec}
+use Rattle.spu_elf.specs.Entries.{area_name, is_entry}
 use Rattle.spu_elf.specs.Spelling.{spell_from, spell_exec}
 use Rattle.spu_elf.specs.Validity.{IsName, IsValidExec}
-use Rattle.spu_cesof.specs.declared.constants.TheConstants.{FIRST_ENTRY, HANDLE_ALIGN, HANDLE_IMAGE, HANDLE_SIZE, HANDLE_TOE, IMAGE_ALIGN, PREFIX_SIZE, R_PPC_ADDR32, TOE_ADDRESS, TOE_ENTRY_SIZE}
+use Rattle.spu_cesof.specs.declared.constants.TheConstants.{FIRST_ENTRY, HANDLE_ALIGN, HANDLE_IMAGE, HANDLE_SIZE, HANDLE_TOE, IMAGE_ALIGN, R_PPC_ADDR32, TOE_ADDRESS, TOE_ENTRY_SIZE}
 
 -- ---- the entries of an executable
-
-abbrev pub is_object : SymKind → Bool
-is_object kinds.Object = true
-is_object _ = false
-
--- an entry is a global Object whose name begins with `_EAR_` and goes on
-abbrev pub is_entry : Symbol → Bool
-is_entry s = s.global && (is_object s.kind && (nat_lt PREFIX_SIZE (length s.name) && bytes_eq (take PREFIX_SIZE s.name) (codes "_EAR_")))
 
 -- their names without `_EAR_`, in order
 abbrev pub entry_names : List Symbol → List (List ℕ)
 entry_names [] = []
-entry_names (s ∷ ss) = if is_entry s then drop PREFIX_SIZE s.name ∷ entry_names ss else entry_names ss
+entry_names (s ∷ ss) = if is_entry s then area_name s ∷ entry_names ss else entry_names ss
 
 -- ---- sections
 

@@ -1,7 +1,5 @@
 //! The sizes and places of an embedded executable's sections and names.
 
-/// The length of `_EAR_`, with which the names of the entries of an executable begin.
-pub const PREFIX_SIZE: usize = 5;
 /// What the executable's address is a multiple of, and where it begins in the object.
 pub const IMAGE_ALIGN: usize = 128;
 /// The size of an entry of the table of effective addresses, of which the table's is a multiple.

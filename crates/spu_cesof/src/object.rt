@@ -1,40 +1,20 @@
 //! The object in which an executable is embedded: its sections, symbols and relocations.
 
-ghost use Rattle.std.specs.Prelude.{◌≡◌, ◌+◌, ◌*◌, ◌^◌, ◌<◌, ◌≤◌, ◌&&◌, ◌++◌, ◌∷◌, [], length, take, codes, nat_lt, replicate, IfOk, OnOk};
+ghost use Rattle.std.specs.Prelude.{◌≡◌, ◌+◌, ◌*◌, ◌^◌, ◌<◌, ◌≤◌, ◌++◌, ◌∷◌, [], length, codes, replicate, IfOk, OnOk};
 ghost use Rattle.std.specs.List.{flat_map};
-ghost use Rattle.std.specs.Str.{bytes_eq};
 ghost use Rattle.spu_word.specs.declared.limits.TheConstants.{MAX_FILE_SIZE, MAX_SYMBOLS};
 ghost use Rattle.spu_elf.specs.Spelling.{relocation};
-ghost use Rattle.spu_cesof.specs.Embedding.{is_object, is_entry, entry_names, data_section, handle_bytes, object_sections, section_symbol, handle_symbol, entry_symbol, named_symbols, object_symbols, address_reloc, toe_relocs, handle_relocs, object_of};
+ghost use Rattle.spu_cesof.specs.Embedding.{entry_names, data_section, handle_bytes, object_sections, section_symbol, handle_symbol, entry_symbol, named_symbols, object_symbols, address_reloc, toe_relocs, handle_relocs, object_of};
 
 use crate::constants::{
-    FIRST_ENTRY, HANDLE_ALIGN, HANDLE_IMAGE, HANDLE_SIZE, HANDLE_TOE, IMAGE_ALIGN, PREFIX_SIZE,
-    R_PPC_ADDR32, TOE_ADDRESS, TOE_ENTRY_SIZE,
+    FIRST_ENTRY, HANDLE_ALIGN, HANDLE_IMAGE, HANDLE_SIZE, HANDLE_TOE, IMAGE_ALIGN, R_PPC_ADDR32,
+    TOE_ADDRESS, TOE_ENTRY_SIZE,
 };
-use spu_elf::{Object, Reloc, SecKind, Section, SymKind, SymPlace, Symbol};
+use spu_elf::{
+    Object, Reloc, SecKind, Section, SymKind, SymPlace, Symbol, area_name, is_entry,
+};
 use spu_word::{Bytes, Name, OutOfMemory, Seq};
 use std::alloc::Global;
-
-/// Whether a symbol names data.
-fn is_object(kind: SymKind) -> bool
-    ensures { result ≡ is_object kind }
-{
-    matches!(kind, SymKind::Object)
-}
-
-/// Whether a name begins with `_EAR_`, and goes on.
-fn is_entry_name(name: &[u8]) -> bool
-    ensures { result ≡ (nat_lt PREFIX_SIZE (length name.now) && bytes_eq (take PREFIX_SIZE name.now) (codes "_EAR_")) }
-{
-    name.len() > PREFIX_SIZE && name.starts_with(b"_EAR_")
-}
-
-/// Whether a symbol is an entry.
-fn is_entry(s: &Symbol) -> bool
-    ensures { result ≡ is_entry s.now }
-{
-    s.global && is_object(s.kind) && is_entry_name(s.name.as_slice())
-}
 
 /// The names of the entries of an executable, without `_EAR_`.
 pub fn entry_names(alloc: Global, symbols: &[Symbol]) -> Result<Seq<Name>, OutOfMemory>
@@ -44,7 +24,7 @@ pub fn entry_names(alloc: Global, symbols: &[Symbol]) -> Result<Seq<Name>, OutOf
     let mut names = Seq::new(alloc);
     for s in symbols {
         if is_entry(s) {
-            names.push(Seq::copied(alloc, &s.name.as_slice()[PREFIX_SIZE..])?)?;
+            names.push(Seq::copied(alloc, area_name(s))?)?;
         }
     }
     Ok(names)

@@ -16,7 +16,8 @@ use Rattle.spu_layout.proofs.Flats.{planned}
 use Rattle.spu_exec.specs.Admission.{first_overlap, first_unfit}
 use Rattle.spu_ls.specs.declared.admission.Misfit.{Misfit}
 use Rattle.spu_ls.specs.declared.admission.Misfit.TheVariants as misfits
-use Rattle.spu_ls.specs.Entries.{is_entry, entries_of, image_place}
+use Rattle.spu_elf.specs.Entries.{is_entry}
+use Rattle.spu_ls.specs.Entries.{entries_of, image_place}
 use Rattle.spu_ls.specs.Entries as symbols
 use Rattle.spu_ls.specs.Loading.{are_inside, fault_of, first_outside, first_unresolved, is_entry_inside, is_image_inside, is_in_root, is_in_store, is_unresolved, load_fault, misfit_of, or_else}
 use Rattle.spu_ls.specs.Sound.{IsOverBytes}

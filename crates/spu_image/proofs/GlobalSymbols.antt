@@ -16,7 +16,8 @@ use Rattle.spu_lift.specs.declared.program.Ear.{Ear}
 use Rattle.spu_lift.specs.declared.program.Global_.{Global_}
 use Rattle.spu_lift.specs.declared.program.Prog.{Prog}
 use Rattle.spu_lift.specs.WellFormed.{AreDistinct, AreEars, IsWellFormed}
-use Rattle.spu_ls.specs.Entries.{is_object, is_entry, is_image_ea, entries_of, image_place}
+use Rattle.spu_elf.specs.Entries.{is_object, is_entry}
+use Rattle.spu_ls.specs.Entries.{is_image_ea, entries_of, image_place}
 use Rattle.spu_ls.specs.Entries as symbols
 use Rattle.spu_ideal.specs.Machine.{entry_of}
 use Rattle.spu_layout.specs.Layouts.{Layout}

@@ -18,8 +18,9 @@ use Rattle.spu_elf.specs.declared.objects.SymKind.TheVariants as kinds
 use Rattle.spu_elf.specs.declared.objects.SymPlace.TheVariants as places
 use Rattle.spu_elf.specs.declared.executables.Exec.{Exec}
 use Rattle.spu_exec.specs.Transfers.{Stretch}
-use Rattle.spu_ls.specs.declared.entries.TheConstants.{PREFIX_SIZE}
-use Rattle.spu_ls.specs.Entries.{is_object, is_entry, area_name, image_place}
+use Rattle.spu_elf.specs.declared.entries.TheConstants.{ENTRY_PREFIX_SIZE}
+use Rattle.spu_elf.specs.Entries.{is_object, is_entry, area_name}
+use Rattle.spu_ls.specs.Entries.{image_place}
 use Rattle.spu_exec.specs.Admission.{is_area, first_overlap, is_in_range, first_unfit}
 use Rattle.spu_exec.proofs.Admission.{overlap_below}
 use Rattle.spu_ls.specs.Loading.{symbol_at, is_unresolved, first_unresolved, is_in_store, first_outside, is_in_root, is_entry_inside, is_image_inside, are_inside, or_else, misfit_of}
@@ -72,18 +73,18 @@ none_is None None None (Some j) e h = (cc, cc, cc, cc)
 none_is None None None None true h = (refl, refl, refl, refl)
 none_is None None None None false h = (cc, cc, cc, cc)
 
-pub long : (s : Symbol) → is_entry s ≡ true → PREFIX_SIZE ≤ length s.name
+pub long : (s : Symbol) → is_entry s ≡ true → ENTRY_PREFIX_SIZE ≤ length s.name
 long s e =
-    let a = and_parts s.global (is_object s.kind && (nat_lt PREFIX_SIZE (length s.name) && bytes_eq (take PREFIX_SIZE s.name) (codes "_EAR_"))) e in
-    let b = and_parts (is_object s.kind) (nat_lt PREFIX_SIZE (length s.name) && bytes_eq (take PREFIX_SIZE s.name) (codes "_EAR_")) a.1 in
-    let c = and_parts (nat_lt PREFIX_SIZE (length s.name)) (bytes_eq (take PREFIX_SIZE s.name) (codes "_EAR_")) b.1 in
-    let more : PREFIX_SIZE < length s.name = ltb-true PREFIX_SIZE (length s.name) c.0 in
+    let a = and_parts s.global (is_object s.kind && (nat_lt ENTRY_PREFIX_SIZE (length s.name) && bytes_eq (take ENTRY_PREFIX_SIZE s.name) (codes "_EAR_"))) e in
+    let b = and_parts (is_object s.kind) (nat_lt ENTRY_PREFIX_SIZE (length s.name) && bytes_eq (take ENTRY_PREFIX_SIZE s.name) (codes "_EAR_")) a.1 in
+    let c = and_parts (nat_lt ENTRY_PREFIX_SIZE (length s.name)) (bytes_eq (take ENTRY_PREFIX_SIZE s.name) (codes "_EAR_")) b.1 in
+    let more : ENTRY_PREFIX_SIZE < length s.name = ltb-true ENTRY_PREFIX_SIZE (length s.name) c.0 in
     omega arith
 
 abbrev no_symbol : Symbol
 no_symbol = record { name = []; value = 0; size = 0; kind = kinds.Plain; global = false; place = places.Undefined }
 
-pub unresolved_in : (x : Exec) (file : List ℕ) (i : Inputs) (k : ℕ) → misfit_of x file i ≡ Some (misfits.Unresolved k) → (k < length x.symbols) × (PREFIX_SIZE ≤ length (symbol_at x.symbols k).name)
+pub unresolved_in : (x : Exec) (file : List ℕ) (i : Inputs) (k : ℕ) → misfit_of x file i ≡ Some (misfits.Unresolved k) → (k < length x.symbols) × (ENTRY_PREFIX_SIZE ≤ length (symbol_at x.symbols k).name)
 unresolved_in x file i k e =
     let at = position-Some (λ (s : Symbol). is_unresolved i.areas s) x.symbols k no_symbol (first_is (first_unresolved x.symbols i.areas) _ _ _ _ k e) in
     let entry = and_parts (is_entry (symbol_at x.symbols k)) (not (is_area i.areas (area_name (symbol_at x.symbols k)))) at.1 in

@@ -9,7 +9,8 @@ use Rattle.spu_elf.specs.declared.executables.Exec.{Exec}
 use Rattle.spu_elf.specs.declared.objects.Symbol.{Symbol}
 use Rattle.spu_exec.specs.Entries.{Entry, quad_for}
 use Rattle.spu_ls.specs.Stores.{Store, placed}
-use Rattle.spu_ls.specs.Entries.{is_entry, entry_of, entries_of, area_name, image_place}
+use Rattle.spu_elf.specs.Entries.{area_name, is_entry}
+use Rattle.spu_ls.specs.Entries.{entry_of, entries_of, image_place}
 use Rattle.spu_ls.specs.Machine.{State}
 use Rattle.spu_ls.specs.Start.{loaded, image_of, with_entries, start, started}
 use Rattle.spu_ls.specs.View.{places, enters, enters_all, enters_image}

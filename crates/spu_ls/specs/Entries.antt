@@ -1,24 +1,10 @@
--- The symbols of an executable whose quadwords a load fills in: the entries, which name areas, and the one that tells where the
--- executable's file lies. The names are this project's own; the symbols are those of the ELF format.
-use Rattle.std.specs.Prelude.{ℕ, ◌&&◌, Bool, true, false, List, [], ◌∷◌, length, take, drop, map, filter, codes, nat_lt, if◌then◌else◌, Option, Some, None}
+-- The quadwords of an executable that a load fills in: those of the entries, which name areas, and the one that tells where the
+-- executable's file lies. That one's name is this project's own.
+use Rattle.std.specs.Prelude.{ℕ, ◌&&◌, Bool, List, [], ◌∷◌, map, filter, codes, if◌then◌else◌, Option, Some, None}
 use Rattle.std.specs.Str.{bytes_eq}
-use Rattle.spu_elf.specs.declared.objects.SymKind.{SymKind}
-use Rattle.spu_elf.specs.declared.objects.SymKind.TheVariants as kinds
 use Rattle.spu_elf.specs.declared.objects.Symbol.{Symbol}
+use Rattle.spu_elf.specs.Entries.{area_name, is_entry, is_object}
 use Rattle.spu_exec.specs.Entries.{Entry}
-use Rattle.spu_ls.specs.declared.entries.TheConstants.{PREFIX_SIZE}
-
-abbrev pub is_object : SymKind → Bool
-is_object kinds.Object = true
-is_object _ = false
-
--- an entry: a global Object whose name begins with `_EAR_` and goes on
-abbrev pub is_entry : Symbol → Bool
-is_entry s = s.global && (is_object s.kind && (nat_lt PREFIX_SIZE (length s.name) && bytes_eq (take PREFIX_SIZE s.name) (codes "_EAR_")))
-
--- the name of the area that it refers to
-abbrev pub area_name : Symbol → List ℕ
-area_name s = drop PREFIX_SIZE s.name
 
 abbrev pub entry_of : Symbol → Entry
 entry_of s = record { at = s.value; name = area_name s }

@@ -13,7 +13,8 @@ use Rattle.spu_elf.specs.declared.objects.SymKind.TheVariants as kinds
 use Rattle.spu_elf.specs.declared.objects.SymPlace.TheVariants as places
 use Rattle.spu_elf.specs.declared.executables.Exec.{Exec}
 use Rattle.spu_exec.specs.Admission.{area_at, is_area, first_overlap, first_unfit}
-use Rattle.spu_ls.specs.Entries.{is_entry, area_name, image_place}
+use Rattle.spu_elf.specs.Entries.{area_name, is_entry}
+use Rattle.spu_ls.specs.Entries.{image_place}
 use Rattle.spu_ls.specs.Start.{image_of}
 use Rattle.spu_ls.specs.declared.admission.Misfit.{Misfit}
 use Rattle.spu_ls.specs.declared.admission.Misfit.TheVariants as misfits

@@ -5,7 +5,8 @@ use Rattle.spu_word.specs.declared.big_endian.Quad.{Quad}
 use Rattle.spu_isa.specs.declared.instruction.Inst.{Inst}
 use Rattle.spu_elf.specs.declared.objects.Symbol.{Symbol}
 use Rattle.spu_exec.specs.declared.channels.TheConstants.{MFC_EAH, MFC_EAL, MFC_LSA, MFC_SIZE, MFC_TAG_ID, MFC_WR_TAG_MASK}
-use Rattle.spu_ls.specs.Entries.{is_entry, entries_of}
+use Rattle.spu_elf.specs.Entries.{is_entry}
+use Rattle.spu_ls.specs.Entries.{entries_of}
 use Rattle.spu_ls.specs.Start.{with_entries, with_image}
 use Rattle.spu_ls.specs.Stores.{bytes_of, placed}
 use Rattle.spu_ls.specs.Machine.{State, put_word}

@@ -3,11 +3,12 @@
 ghost use Rattle.std.specs.Prelude.{◌≡◌, ◌&&◌};
 ghost use Rattle.std.specs.List.{list_all};
 ghost use Rattle.spu_elf.specs.declared.objects.Symbol.{Symbol};
-ghost use Rattle.spu_ls.specs.Entries.{is_entry, area_name, image_place};
+ghost use Rattle.spu_elf.specs.Entries.{area_name, is_entry};
+ghost use Rattle.spu_ls.specs.Entries.{image_place};
 ghost use Rattle.spu_ls.specs.Loading.{is_unresolved, first_unresolved, is_in_store, first_outside, is_in_root, is_entry_inside, is_image_inside, are_inside, misfit_of};
 
-use crate::entries::{area_name, image_place, is_entry};
-use spu_elf::{Exec, Segment, Symbol};
+use crate::entries::image_place;
+use spu_elf::{Exec, Segment, Symbol, area_name, is_entry};
 use spu_exec::areas::{first_overlap, first_unfit, is_area};
 use spu_word::limits::{QUAD_SIZE, STORE_SIZE};
 use spu_word::{Area, Inputs};

@@ -6,14 +6,14 @@ ghost use Rattle.spu_word.specs.declared.load.LoadFault.TheVariants as faults;
 ghost use Rattle.spu_elf.specs.Spelling.{spell_exec};
 ghost use Rattle.spu_elf.specs.Validity.{IsValidExec};
 ghost use Rattle.spu_elf.specs.declared.constants.TheConstants.{MAX_SEGMENTS};
-ghost use Rattle.spu_ls.specs.declared.entries.TheConstants.{PREFIX_SIZE};
-ghost use Rattle.spu_ls.specs.Entries.{area_name};
+ghost use Rattle.spu_elf.specs.Entries.{area_name};
+ghost use Rattle.spu_elf.specs.declared.entries.TheConstants.{ENTRY_PREFIX_SIZE};
 ghost use Rattle.spu_ls.specs.Loading.{symbol_at, IsAdmitted, first_outside, misfit_of, fault_of, load_fault};
 
 use crate::admission::{Misfit, misfit_of};
-use crate::entries::{area_name, image_place};
+use crate::entries::image_place;
 use crate::stepping::Machine;
-use spu_elf::Exec;
+use spu_elf::{Exec, area_name};
 use spu_exec::areas;
 use spu_word::{Inputs, LoadFault, OutOfMemory};
 use std::alloc::Global;
@@ -21,7 +21,7 @@ use std::alloc::Global;
 /// The fault of an entry's name.
 fn unresolved(alloc: Global, x: &Exec, k: usize) -> LoadFault
     requires inside { k < length x.now.symbols }
-    requires long { PREFIX_SIZE ≤ length (symbol_at x.now.symbols k).name }
+    requires long { ENTRY_PREFIX_SIZE ≤ length (symbol_at x.now.symbols k).name }
     ensures { (result ≡ faults.OutOfMemory) ⊎ (result ≡ faults.UnresolvedName (area_name (symbol_at x.now.symbols k))) }
 {
     areas::unresolved(alloc, area_name(&x.symbols.as_slice()[k]))

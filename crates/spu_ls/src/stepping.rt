@@ -17,11 +17,11 @@ ghost use Rattle.spu_ls.specs.declared.ending.RunEnd.TheVariants as ending;
 
 use crate::channels::ChannelWords;
 use crate::ending::{RunEnd, Tick};
-use crate::entries::{area_name, image_quad, is_entry};
+use crate::entries::image_quad;
 use crate::kept::Kept;
 use crate::landing::{get_from, put_to};
 use crate::local_store::{preferred, put_bytes, put_quad, quad_at, word_at};
-use spu_elf::Symbol;
+use spu_elf::{Symbol, area_name, is_entry};
 use spu_exec::areas::copied_areas;
 use spu_exec::channels::{
     INBOX_SIZE, MFC_CMD, MFC_EAH, MFC_EAL, MFC_LSA, MFC_RD_TAG_MASK, MFC_RD_TAG_STAT, MFC_SIZE,
