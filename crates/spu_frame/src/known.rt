@@ -8,12 +8,11 @@ ghost use Rattle.spu_frame.specs.Walks.{IsOf16, AddsImmediate, IsKnownWrite, lea
 ghost use Rattle.spu_frame.specs.Functions.{code_of};
 ghost use Rattle.spu_frame.specs.Surveys.{AreTargets, IsPlainNumber, IsLoaded, IsRegisterAddition, IsLoadAdded, IsScan, AreKnown, with_target};
 
-use crate::places::{
-    LINK_REGISTER, STACK_POINTER, code_of, instruction, leads_away, taken_of, writes,
-};
+use crate::places::{code_of, instruction, leads_away, taken_of, writes};
 use spu_isa::Op;
 use spu_lift::{Operand, Prog, SymInst};
 use spu_word::OutOfMemory;
+use spu_word::conventions::{LINK_REGISTER, STACK_POINTER};
 use spu_word::limits::REGISTER_COUNT;
 use std::alloc::Global;
 

@@ -14,4 +14,4 @@ mod survey;
 pub use depths::{Depths, frames};
 pub use faults::FrameKind;
 pub use frame_fault::FrameFault;
-pub use places::{LINK_REGISTER, code_of, instruction, taken_of};
+pub use places::{code_of, instruction, taken_of};

@@ -11,12 +11,7 @@ ghost use Rattle.spu_lift.specs.declared.program.Operand.TheVariants as operand;
 
 use spu_isa::{Kind, Op, info};
 use spu_lift::{Operand, Prog, SymInst};
-
-/// The register that holds the link.
-pub const LINK_REGISTER: u8 = 0;
-
-/// The register that holds the stack pointer.
-pub const STACK_POINTER: u8 = 1;
+use spu_word::conventions::LINK_REGISTER;
 
 /// The instructions of a function.
 pub fn code_of(p: &Prog, f: u32) -> &[SymInst]

@@ -9,9 +9,10 @@ ghost use Rattle.spu_frame.specs.Surveys.{AreKnown, AreMet, AreSingle, AreDepths
 use crate::faults::FrameKind;
 use crate::known::known_writes;
 use crate::met::{Met, amount, behind, met_at};
-use crate::places::{STACK_POINTER, code_of, instruction, is_exit, writes};
+use crate::places::{code_of, instruction, is_exit, writes};
 use crate::spread::spread;
 use spu_lift::Prog;
+use spu_word::conventions::STACK_POINTER;
 use spu_word::limits::MAX_STACK_LIMIT;
 use spu_word::{OutOfMemory, Seq};
 use std::alloc::Global;

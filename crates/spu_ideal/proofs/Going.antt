@@ -17,7 +17,7 @@ use Rattle.spu_exec.specs.Tags.{IsWaiting}
 use Rattle.spu_exec.specs.Transfers.{is_size, is_shaped, is_taken}
 use Rattle.spu_lift.specs.Places.{instruction_at}
 use Rattle.spu_ideal.specs.declared.ending.Reason.TheVariants as reason
-use Rattle.spu_ideal.specs.declared.rules.TheConstants.{LOADER_TAG, MAX_WAITING}
+use Rattle.spu_word.specs.declared.conventions.TheConstants.{LOADER_TAG, MAX_WAITING}
 use Rattle.spu_ideal.specs.Landing.{no_image}
 use Rattle.spu_ideal.specs.Channels.{is_free, takes, transfer_by, waits_last}
 use Rattle.spu_lift.specs.declared.program.SymInst.{SymInst}

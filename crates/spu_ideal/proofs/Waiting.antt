@@ -13,7 +13,7 @@ use Rattle.spu_isa.specs.declared.instruction.Inst.{Inst}
 use Rattle.spu_word.specs.declared.limits.TheConstants.{OUTBOX_SIZE, QUAD_SIZE}
 use Rattle.spu_exec.specs.declared.channels.TheConstants.{MFC_CMD, MFC_LSA, MFC_RD_TAG_MASK, MFC_RD_TAG_STAT, MFC_SIZE, MFC_WR_TAG_MASK, MFC_WR_TAG_UPDATE, SPU_RD_IN_MBOX, SPU_WR_OUT_MBOX}
 use Rattle.spu_exec.specs.Channels.{is_written, is_counted, is_update}
-use Rattle.spu_ideal.specs.declared.rules.TheConstants.{LOADER_TAG, MAX_WAITING}
+use Rattle.spu_word.specs.declared.conventions.TheConstants.{LOADER_TAG, MAX_WAITING}
 use Rattle.spu_exec.specs.Moves.{or_zero}
 use Rattle.spu_exec.specs.declared.transfers.Form.{Form}
 use Rattle.spu_exec.specs.declared.transfers.Form.TheVariants.{Put, Get}

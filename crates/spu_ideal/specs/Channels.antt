@@ -17,7 +17,7 @@ use Rattle.spu_exec.specs.Tags.{is_landing, with_tags, without_tags, status}
 use Rattle.spu_lift.specs.declared.program.SymInst.{SymInst}
 use Rattle.spu_lift.specs.declared.program.Prog.{Prog}
 use Rattle.spu_lift.specs.Places.{instruction_at}
-use Rattle.spu_ideal.specs.declared.rules.TheConstants.{LOADER_TAG, MAX_WAITING}
+use Rattle.spu_word.specs.declared.conventions.TheConstants.{LOADER_TAG, MAX_WAITING}
 use Rattle.spu_ideal.specs.declared.ending.IdealEnd.TheVariants as ending
 use Rattle.spu_ideal.specs.declared.ending.Reason.TheVariants as reason
 use Rattle.spu_ideal.specs.Bytes.{numbers, known_word}

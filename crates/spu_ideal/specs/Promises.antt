@@ -9,7 +9,7 @@ use Rattle.spu_exec.specs.Transfers.{is_taken}
 use Rattle.spu_exec.specs.Tags.{waits}
 use Rattle.spu_lift.specs.declared.program.Prog.{Prog}
 use Rattle.spu_lift.specs.Places.{link_register, IsPlace}
-use Rattle.spu_ideal.specs.declared.rules.TheConstants.{LOADER_TAG, MAX_WAITING}
+use Rattle.spu_word.specs.declared.conventions.TheConstants.{LOADER_TAG, MAX_WAITING}
 use Rattle.spu_ideal.specs.Bytes.{is_link}
 use Rattle.spu_ideal.specs.State.{Sym}
 use Rattle.spu_ideal.specs.Accesses.{is_allowed}

@@ -8,7 +8,7 @@ use Rattle.spu_exec.specs.declared.transfers.Transfer.{Transfer}
 use Rattle.spu_lift.specs.declared.program.SymInst.{SymInst}
 use Rattle.spu_lift.specs.declared.program.Prog.{Prog}
 use Rattle.spu_lift.specs.Places.{instruction_at}
-use Rattle.spu_ideal.specs.declared.rules.TheConstants.{FIRST_LOADER_REGISTER, LAST_LOADER_REGISTER}
+use Rattle.spu_word.specs.declared.conventions.TheConstants.{FIRST_LOADER_REGISTER, LAST_LOADER_REGISTER}
 use Rattle.spu_ideal.specs.declared.state.OpenCall.{OpenCall}
 use Rattle.spu_ideal.specs.declared.state.Update.{Update}
 use Rattle.spu_ideal.specs.declared.state.Update.TheVariants.{UnknownUpdate}

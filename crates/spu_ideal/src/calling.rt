@@ -2,7 +2,7 @@
 
 ghost use Rattle.std.specs.Prelude.{◌≡◌, ◌+◌, ◌^◌, ◌<◌, ◌∷◌, length, vec_len};
 ghost use Rattle.spu_word.specs.declared.limits.TheConstants.{REGISTER_COUNT};
-ghost use Rattle.spu_lift.specs.Places.{taken_places};
+ghost use Rattle.spu_lift.specs.Places.{link_register, taken_places};
 ghost use Rattle.spu_lift.specs.declared.program.Label.{Label};
 ghost use Rattle.spu_ideal.specs.Bytes.{unknown_quad};
 ghost use Rattle.spu_ideal.specs.Quads.{quad_bytes};
@@ -13,15 +13,11 @@ ghost use Rattle.spu_ideal.specs.View.{goes_within, has_places, innermost as inn
 use crate::ending::Reason;
 use crate::ideal::{Ideal, instruction};
 use crate::quads::SymQuad;
-use crate::rules::{FIRST_LOADER_REGISTER, LAST_LOADER_REGISTER};
 use crate::state::{OpenCall, Update};
 use spu_lift::{Label, Operand, Prog};
-
-/// The register that holds the link.
-const LINK: u8 = 0;
-
-/// The register that holds the stack pointer.
-pub(crate) const STACK_POINTER: u8 = 1;
+use spu_word::conventions::{
+    FIRST_LOADER_REGISTER, LAST_LOADER_REGISTER, LINK_REGISTER, STACK_POINTER,
+};
 
 /// A register becomes unknown.
 #[tactic(auto, using(crate::proofs::Going::register_set))]
@@ -85,11 +81,11 @@ impl Ideal {
 
     /// The link register has another quad.
     fn put_link(&mut self, quad: SymQuad)
-        ensures exact { state_of self.new ≡ record (state_of self.old) { regs = put LINK (quad_bytes quad) (state_of self.old).regs } }
+        ensures exact { state_of self.new ≡ record (state_of self.old) { regs = put link_register (quad_bytes quad) (state_of self.old).regs } }
         ensures count { self.new.steps ≡ self.old.steps }
         ensures room { self.new.most_calls ≡ self.old.most_calls }
     {
-        self.regs[LINK as usize] = quad;
+        self.regs[LINK_REGISTER as usize] = quad;
     }
 
     /// A call is opened, with its link in the link register.
@@ -165,7 +161,7 @@ impl Ideal {
     {
         match self.innermost() {
             Some(c) => {
-                if self.quad(LINK).is_link(c.f, c.i) {
+                if self.quad(LINK_REGISTER).is_link(c.f, c.i) {
                     self.return_to(p, c);
                 } else {
                     self.leave(Reason::Target);
@@ -200,7 +196,7 @@ impl Ideal {
     {
         match self.innermost() {
             Some(c) => {
-                if self.quad(LINK).is_link(c.f, c.i) {
+                if self.quad(LINK_REGISTER).is_link(c.f, c.i) {
                     self.jump_to(p, g);
                 } else {
                     self.leave(Reason::Target);
@@ -325,7 +321,7 @@ impl Ideal {
         ensures count { self.new.steps ≡ self.old.steps + 1 }
         ensures room { self.new.most_calls ≡ self.old.most_calls }
     {
-        if r == LINK {
+        if r == LINK_REGISTER {
             self.go_back(p);
         } else {
             let label = self.quad(r).label();

@@ -4,7 +4,7 @@ ghost use Rattle.std.specs.Prelude.{◌≡◌, ◌+◌, ◌/◌, ◌^◌, ◌<�
 ghost use Rattle.spu_word.specs.declared.limits.TheConstants.{OUTBOX_SIZE, QUAD_SIZE, REGISTER_COUNT, STORE_SIZE};
 ghost use Rattle.spu_exec.specs.Tags.{AllWaiting};
 ghost use Rattle.spu_lift.specs.Places.{instruction_at};
-ghost use Rattle.spu_ideal.specs.declared.rules.TheConstants.{MAX_WAITING};
+ghost use Rattle.spu_word.specs.declared.conventions.TheConstants.{MAX_WAITING};
 ghost use Rattle.spu_ideal.specs.Ends.{is_end};
 
 use crate::channel_words::ChannelWords;

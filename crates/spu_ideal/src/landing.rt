@@ -132,13 +132,7 @@ fn some_fills(tags: u32, areas: &[Area], queue: &[Transfer], at: u32) -> bool
 }
 
 /// Whether the byte at an address is no number behind the landing of some transfers.
-fn is_missing(
-    store: &[SymQuad],
-    tags: u32,
-    areas: &[Area],
-    before: &[Transfer],
-    at: u32,
-) -> bool
+fn is_missing(store: &[SymQuad], tags: u32, areas: &[Area], before: &[Transfer], at: u32) -> bool
     requires full { length store.now ≡ STORE_SIZE / QUAD_SIZE }
     requires before { AllWaiting before.now }
     requires inside { at < STORE_SIZE }

@@ -12,7 +12,6 @@ ghost use Rattle.spu_ideal.specs.Loading.{IsLoadable, ear_at, fault_in, first_un
 ghost use Rattle.spu_ideal.specs.Quads.{quad_bytes};
 ghost use Rattle.spu_ideal.specs.View.{regs_of};
 
-use crate::calling::STACK_POINTER;
 use crate::channel_words::ChannelWords;
 use crate::data::starting_store;
 use crate::ideal::Ideal;
@@ -21,6 +20,7 @@ use crate::state::Update;
 use spu_exec::areas;
 use spu_frame::Depths;
 use spu_lift::{Ear, Prog};
+use spu_word::conventions::STACK_POINTER;
 use spu_word::limits::{OUTBOX_SIZE, QUEUE_SIZE, REGISTER_COUNT, STACK_TOP};
 use spu_word::{Area, Inputs, LoadFault, OutOfMemory, Quad, put32};
 use std::alloc::Global;

@@ -6,7 +6,7 @@ ghost use Rattle.spu_exec.specs.declared.channels.TheConstants.{MFC_LSA, MFC_TAG
 ghost use Rattle.spu_exec.specs.Channels.{count_of as count_in_table, is_written as is_written_in_table};
 ghost use Rattle.spu_exec.specs.Tags.{IsWaiting};
 ghost use Rattle.spu_exec.specs.Transfers.{described, form_of};
-ghost use Rattle.spu_ideal.specs.declared.rules.TheConstants.{MAX_WAITING};
+ghost use Rattle.spu_word.specs.declared.conventions.TheConstants.{MAX_WAITING};
 ghost use Rattle.spu_frame.specs.Found.{frame_at, function_count};
 ghost use Rattle.spu_ideal.specs.Bytes.{numbers};
 ghost use Rattle.spu_ideal.specs.Channels.{
@@ -39,7 +39,6 @@ use crate::channel_words::word_or_zero;
 use crate::ending::{IdealEnd, Reason};
 use crate::ideal::{Ideal, instruction};
 use crate::quads::SymQuad;
-use crate::rules::{LOADER_TAG, MAX_WAITING};
 use crate::state::Update;
 use spu_exec::channels::{
     INBOX_SIZE, MFC_CMD, MFC_RD_TAG_MASK, MFC_RD_TAG_STAT, MFC_WR_TAG_MASK, MFC_WR_TAG_UPDATE,
@@ -49,6 +48,7 @@ use spu_exec::{Form, Transfer, form_of, is_taken};
 use spu_frame::Depths;
 use spu_isa::{Inst, Op};
 use spu_lift::Prog;
+use spu_word::conventions::{LOADER_TAG, MAX_WAITING};
 use spu_word::limits::OUTBOX_SIZE;
 use spu_word::{Quad, with_word};
 

@@ -4,10 +4,10 @@ use Rattle.std.specs.Prelude.{slice_get, Contains, if◌then◌else◌}
 use Rattle.std.specs.List.{AllByRecursion}
 use Rattle.std.proofs.Math.Nat.{mul-le-mul_left}
 use Rattle.std.proofs.lemmas.Option.{slice_get_within}
-use Rattle.spu_word.specs.declared.limits.TheConstants.{STACK_TOP, STORE_SIZE}
+use Rattle.spu_word.specs.declared.limits.TheConstants.{BUFFER_COUNTS, BUFFER_SIZES, MAX_BUFFER_SIZE, STACK_TOP, STORE_SIZE}
 use Rattle.spu_lift.specs.declared.program.Function.{Function}
 use Rattle.spu_lift.specs.declared.program.Prog.{Prog}
-use Rattle.spu_plan.specs.declared.constants.TheConstants.{BUFFER_COUNTS, BUFFER_SIZES, LOADER_SIZE, MAX_BUFFER_SIZE}
+use Rattle.spu_plan.specs.declared.constants.TheConstants.{LOADER_SIZE}
 use Rattle.spu_plan.specs.declared.plan.Plan.{Plan}
 use Rattle.spu_plan.specs.Choices.{IsFlatPlan, IsOverlayPlan}
 use Rattle.spu_layout.specs.declared.layout.Layout as held

@@ -2,14 +2,14 @@
 use Rattle.std.specs.Prelude.{◌≡◌, ℕ, zero, suc, ◌+◌, ◌*◌, ◌%◌, ◌<◌, ◌≤◌, ◌^◌, true, List, [], ◌∷◌, ◌++◌, length, map, replicate, take, slice_index_or}
 use Rattle.std.specs.List.{flat_map}
 use Rattle.spu_word.specs.Bytes.{quad_of}
-use Rattle.spu_word.specs.declared.limits.TheConstants.{QUAD_SIZE, STORE_SIZE}
+use Rattle.spu_word.specs.declared.limits.TheConstants.{MAX_BUFFER_SIZE, QUAD_SIZE, STORE_SIZE}
 use Rattle.spu_isa.specs.declared.instruction.Inst.{Inst}
 use Rattle.spu_elf.specs.Rows.{begins, front_size}
 use Rattle.spu_elf.specs.declared.executables.Segment.{Segment}
 use Rattle.spu_lift.specs.declared.program.Prog.{Prog}
 use Rattle.spu_lift.specs.StartCode.{start_instructions}
 use Rattle.spu_lift.specs.WellFormed.{IsCallee}
-use Rattle.spu_plan.specs.declared.constants.TheConstants.{MAX_BUFFER_SIZE, STUB_SIZE}
+use Rattle.spu_plan.specs.declared.constants.TheConstants.{STUB_SIZE}
 use Rattle.spu_plan.specs.declared.plan.Plan.{Plan}
 use Rattle.spu_layout.specs.Layouts.{Layout}
 use Rattle.spu_layout.specs.Placing.{region_size}

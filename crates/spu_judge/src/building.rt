@@ -11,10 +11,11 @@ ghost use Rattle.spu_graph.specs.declared.graph.Edge.{Edge};
 ghost use Rattle.spu_graph.specs.Graphs.{frames_of, edges_of};
 ghost use Rattle.spu_judge.specs.Building.{pointer_node, call_edge, jump_edge, pointer_edge, edge_of, IsOut, IsMade, AreMore, IsEdgeOf, listed, jumps_to};
 
-use spu_frame::{Depths, LINK_REGISTER, code_of, instruction, taken_of};
+use spu_frame::{Depths, code_of, instruction, taken_of};
 use spu_graph::{Edge, Graph};
 use spu_isa::{Kind, info};
 use spu_lift::{Operand, Prog, SymInst};
+use spu_word::conventions::LINK_REGISTER;
 use spu_word::{OutOfMemory, Seq};
 use std::alloc::Global;
 

@@ -5,7 +5,7 @@ use Rattle.std.proofs.Math.Nat.{mul-le-mul_left}
 use Rattle.std.proofs.lemmas.Nat.{mul-mod_first}
 use Rattle.std.proofs.lemmas.List.{length-map}
 use Rattle.std.proofs.lemmas.Option.{slice_get_within}
-use Rattle.spu_word.specs.declared.limits.TheConstants.{DATA_START, STACK_TOP, STORE_SIZE}
+use Rattle.spu_word.specs.declared.limits.TheConstants.{BUFFER_COUNTS, BUFFER_SIZES, DATA_START, STACK_TOP, STORE_SIZE}
 use Rattle.spu_lift.specs.declared.program.CodeSection.{CodeSection}
 use Rattle.spu_lift.specs.declared.program.Function.{Function}
 use Rattle.spu_lift.specs.declared.program.SymInst.{SymInst}
@@ -13,7 +13,6 @@ use Rattle.spu_lift.specs.declared.program.Prog.{Prog}
 use Rattle.spu_lift.specs.StartCode.{start_code}
 use Rattle.spu_lift.specs.Places.{place_in, instruction_at, IsPlace}
 use Rattle.spu_lift.specs.WellFormed.{IsWellFormed}
-use Rattle.spu_plan.specs.declared.constants.TheConstants.{BUFFER_COUNTS, BUFFER_SIZES}
 use Rattle.spu_plan.specs.declared.input.PlanInput.{PlanInput}
 use Rattle.spu_plan.specs.declared.plan.Plan.{Plan}
 use Rattle.spu_plan.specs.Plans.{rounded, flat_plan}

@@ -2,6 +2,7 @@
 -- word of a function, by the function's number and the word's index.)
 use Rattle.std.specs.Prelude.{◌≡◌, ℕ, ◌⊎◌, true, List, [], Option, Some, None, slice_get}
 use Rattle.std.specs.List.{Contains}
+use Rattle.spu_word.specs.declared.conventions.TheConstants.{LINK_REGISTER, STACK_POINTER}
 use Rattle.spu_isa.specs.declared.operation.Kind.{Kind}
 use Rattle.spu_isa.specs.Table.{row_of}
 use Rattle.spu_lift.specs.declared.program.Operand.TheVariants as operand
@@ -31,10 +32,10 @@ taken_places p f = taken_in (slice_get p.functions f)
 
 -- the registers that hold the link and the stack pointer (SPU ABI, "Register usage")
 abbrev pub link_register : ℕ
-link_register = 0
+link_register = LINK_REGISTER
 
 abbrev pub stack_pointer : ℕ
-stack_pointer = 1
+stack_pointer = STACK_POINTER
 
 abbrev pub kind_of : SymInst → Kind
 kind_of x = (row_of x.inst.op).kind

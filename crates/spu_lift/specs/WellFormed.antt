@@ -2,14 +2,14 @@
 -- this alone. The operands of an instruction are those of the SPU ABI's relocations on it; the rest is this project's own.
 use Rattle.std.specs.Prelude.{◌≡◌, ◌≢◌, ℕ, ◌+◌, ◌*◌, ◌%◌, ◌^◌, ◌<◌, ◌≤◌, ◌⊎◌, Bool, true, false, List, [], ◌∷◌, ◌++◌, length, All, Some, slice_get, codes, pos}
 use Rattle.std.specs.List.{Contains}
-use Rattle.spu_word.specs.declared.limits.TheConstants.{DATA_START, MAX_OBJECTS, MAX_SECTION_SIZE, MAX_SYMBOLS, QUAD_SIZE, WORD_SIZE}
+use Rattle.spu_word.specs.declared.limits.TheConstants.{DATA_START, MAX_CODE_SECTIONS, MAX_DATA_END, MAX_OBJECTS, MAX_SECTION_SIZE, MAX_SYMBOLS, QUAD_SIZE, WORD_SIZE}
 use Rattle.spu_isa.specs.declared.operation.Kind.{Kind}
 use Rattle.spu_isa.specs.declared.operation.Kind.TheVariants as kind
 use Rattle.spu_isa.specs.declared.operation.Op.{Op}
 use Rattle.spu_isa.specs.declared.operation.Op.TheVariants as op
 use Rattle.spu_isa.specs.Table.{InRange, row_of}
 use Rattle.spu_elf.specs.Validity.{IsName}
-use Rattle.spu_lift.specs.declared.program.TheConstants.{MAX_CODE_SECTIONS, MAX_DATA_END, MAX_FUNCTIONS}
+use Rattle.spu_lift.specs.declared.program.TheConstants.{MAX_FUNCTIONS}
 use Rattle.spu_lift.specs.declared.program.Label.{Label}
 use Rattle.spu_lift.specs.declared.program.Label.TheVariants.{Fun, Place, Link}
 use Rattle.spu_lift.specs.declared.program.Operand.{Operand}

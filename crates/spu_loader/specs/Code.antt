@@ -9,7 +9,8 @@ use Rattle.spu_isa.specs.declared.instruction.Inst.{Inst}
 use Rattle.spu_isa.specs.Table.{signed}
 use Rattle.spu_exec.specs.declared.channels.TheConstants.{MFC_CMD, MFC_EAH, MFC_EAL, MFC_GET, MFC_LSA, MFC_RD_TAG_MASK, MFC_RD_TAG_STAT, MFC_SIZE, MFC_TAG_ID, MFC_WR_TAG_MASK, MFC_WR_TAG_UPDATE, UPDATE_ALL}
 use Rattle.spu_plan.specs.declared.constants.TheConstants.{LOADER_SIZE}
-use Rattle.spu_loader.specs.declared.constants.TheConstants.{COMMAND_WORD, EXIT_WORD, LEAST_SHIFT, LOADER_ROOM, LOADER_TAG, MOST_SHIFT, TEST_WORD}
+use Rattle.spu_loader.specs.declared.constants.TheConstants.{COMMAND_WORD, EXIT_WORD, LEAST_SHIFT, LOADER_ROOM, MOST_SHIFT, TEST_WORD}
+use Rattle.spu_word.specs.declared.conventions.TheConstants.{LOADER_TAG}
 use Rattle.spu_loader.specs.declared.table.Loader.{Loader}
 use Rattle.spu_loader.specs.Forms.{rr, rrr, ri, wide, channel}
 

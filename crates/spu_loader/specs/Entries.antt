@@ -9,7 +9,7 @@ use Rattle.spu_ls.specs.Machine.{State, step, steps}
 use Rattle.spu_ls.specs.Hops.{settles, Along}
 use Rattle.spu_ls.specs.Loads.{load_count}
 use Rattle.spu_plan.specs.declared.constants.TheConstants.{LOADER_CODE_SIZE, LOADER_SIZE, STUB_SIZE}
-use Rattle.spu_loader.specs.declared.constants.TheConstants.{FIRST_REGISTER, LAST_REGISTER, LINK_REGISTER, STACK_REGISTER}
+use Rattle.spu_word.specs.declared.conventions.TheConstants.{FIRST_LOADER_REGISTER, LAST_LOADER_REGISTER, LINK_REGISTER, STACK_POINTER}
 use Rattle.spu_loader.specs.Code.{mapped_at}
 use Rattle.spu_loader.specs.Overlays.{Overlay, place_of, slot_of, return_entry_of, IsRegion, IsLaid, IsMapped, IsReady, IsStub, IsLink, link_into}
 
@@ -25,7 +25,7 @@ IsInside o p pc = ((p ≤ pc) × (pc < p + STUB_SIZE)) ⊎ ((o.loader.base ≤ p
 pub record IsUnderway (o : Overlay) (p : ℕ) (s t : State) : Type 0 where
   pub running : t.ended ≡ None
   pub inside : IsInside o p t.pc
-  pub pointer : t.regs STACK_REGISTER ≡ s.regs STACK_REGISTER
+  pub pointer : t.regs STACK_POINTER ≡ s.regs STACK_POINTER
 
 -- a byte of a mapped quadword; all of them are as before
 abbrev pub is_slot : Overlay → ℕ → Bool
@@ -41,7 +41,7 @@ abbrev pub is_loaded : Overlay → ℕ → ℕ → Bool
 is_loaded o r k = is_within (slot_of o r) QUAD_SIZE k || is_within (place_of o r) (o.size r) k
 
 abbrev pub is_scratch : ℕ → Bool
-is_scratch r = r == LINK_REGISTER || nat_le FIRST_REGISTER r && nat_le r LAST_REGISTER
+is_scratch r = r == LINK_REGISTER || nat_le FIRST_LOADER_REGISTER r && nat_le r LAST_LOADER_REGISTER
 
 abbrev pub is_transfer : ℕ → Bool
 is_transfer n = nat_le MFC_LSA n && nat_le n MFC_TAG_ID
@@ -99,7 +99,7 @@ KeepsBelow = (o : Overlay) (r a : ℕ) (link : List ℕ) (s u : State)
 abbrev pub Settles : Type 0
 Settles = (o : Overlay) (p r a : ℕ) (link : List ℕ) (s : State) (between : ℕ → Bool)
     → (x : Arrives o p r a link s) → ((pc : ℕ) → IsInside o p pc → between pc ≡ true) → between a ≡ false
-    → (settles between MAX_HOP_STEPS s ≡ steps x.count s) × Along (λ t. t.regs STACK_REGISTER ≡ s.regs STACK_REGISTER) between MAX_HOP_STEPS s
+    → (settles between MAX_HOP_STEPS s ≡ steps x.count s) × Along (λ t. t.regs STACK_POINTER ≡ s.regs STACK_POINTER) between MAX_HOP_STEPS s
 
 -- region q is missed on the way to region r: it is r, and the quadword of its buffer doesn't name it
 abbrev pub is_missed : Overlay → ℕ → ℕ → State → Bool

@@ -10,7 +10,7 @@ use Rattle.spu_exec.specs.Tags.{waits}
 use Rattle.spu_ls.specs.Stores.{Store, load}
 use Rattle.spu_ls.specs.Machine.{State}
 use Rattle.spu_plan.specs.declared.constants.TheConstants.{RETURN_OFFSET, STUB_SIZE}
-use Rattle.spu_loader.specs.declared.constants.TheConstants.{LINK_REGISTER, LOADER_TAG, LOAD_TRANSFERS}
+use Rattle.spu_word.specs.declared.conventions.TheConstants.{LINK_REGISTER, LOADER_TAG, LOAD_TRANSFERS}
 use Rattle.spu_loader.specs.declared.table.Loader.{Loader}
 use Rattle.spu_loader.specs.Forms.{HasCode}
 use Rattle.spu_loader.specs.Code.{IsLoader, mapped_at, return_quad, image_quad, step_quad, loader_code, stub_code}

@@ -10,7 +10,7 @@ use Rattle.spu_ls.specs.Stores.{Store, placed}
 use Rattle.spu_ls.specs.Machine.{State}
 use Rattle.spu_ls.specs.Start.{started}
 use Rattle.spu_ls.specs.Sound.{AreWords}
-use Rattle.spu_loader.specs.declared.constants.TheConstants.{LINK_REGISTER}
+use Rattle.spu_word.specs.declared.conventions.TheConstants.{LINK_REGISTER}
 use Rattle.spu_loader.specs.Forms.{AreWordsOf}
 use Rattle.spu_loader.specs.Code.{loader_code, stub_code}
 use Rattle.spu_loader.specs.Overlays.{Overlay, IsLaid, IsReady, IsStub, IsLink, link_into}

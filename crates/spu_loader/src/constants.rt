@@ -1,8 +1,7 @@
-//! The numbers of the loader: its words, and its transfers. How many bytes it takes, and what stands behind its words, is
-//! known of plans.
+//! The numbers of the loader's words. How many bytes it takes, and what stands behind its words, is known of plans.
 
 use spu_plan::constants::{LOADER_CODE_SIZE, RETURN_OFFSET, STUB_SIZE};
-use spu_word::limits::WORD_SIZE;
+use spu_word::limits::{MAX_BUFFER_SIZE, MIN_BUFFER_SIZE, WORD_SIZE};
 
 /// How many words the loader has.
 pub const LOADER_WORDS: usize = 66;
@@ -34,32 +33,18 @@ pub const EXIT_WORD: u32 = 62;
 /// The words of a stub.
 pub const STUB_WORDS: usize = 4;
 
-/// The tag of the loader's transfers.
-pub const LOADER_TAG: u32 = 31;
-
-/// The most transfers by which a region is loaded.
-pub const LOAD_TRANSFERS: u32 = 4;
-
 /// The least buffer has two to this power of bytes.
 pub const LEAST_SHIFT: u32 = 10;
 
 /// The greatest buffer has two to this power of bytes.
 pub const MOST_SHIFT: u32 = 16;
 
-/// The register of a call's link.
-pub const LINK_REGISTER: u32 = 0;
-
-/// The register of the stack pointer.
-pub const STACK_REGISTER: u32 = 1;
-
-/// The first of the registers that the loader uses for itself.
-pub const FIRST_REGISTER: u32 = 75;
-
-/// The last of them.
-pub const LAST_REGISTER: u32 = 79;
-
 const _: () = prove!(WORD_SIZE * LOADER_WORDS as u32 == LOADER_CODE_SIZE);
 
 const _: () = prove!(WORD_SIZE * RETURN_WORD == RETURN_OFFSET);
 
 const _: () = prove!(WORD_SIZE * STUB_WORDS as u32 == STUB_SIZE);
+
+const _: () = prove!(1 << LEAST_SHIFT == MIN_BUFFER_SIZE);
+
+const _: () = prove!(1 << MOST_SHIFT == MAX_BUFFER_SIZE);

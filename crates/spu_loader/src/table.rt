@@ -25,7 +25,7 @@ ghost use Rattle.spu_loader.specs.Code.{
   words_ahead,
 };
 
-use crate::constants::{COMMAND_WORD, EXIT_WORD, LOADER_TAG, STUB_WORDS, TEST_WORD};
+use crate::constants::{COMMAND_WORD, EXIT_WORD, STUB_WORDS, TEST_WORD};
 use crate::forms::{channel, immediate, ri, rr, rrr, wide, wrapped};
 use spu_exec::channels::{
     MFC_CMD, MFC_EAH, MFC_EAL, MFC_GET, MFC_LSA, MFC_RD_TAG_MASK, MFC_RD_TAG_STAT, MFC_SIZE,
@@ -33,6 +33,7 @@ use spu_exec::channels::{
 };
 use spu_isa::{Inst, Op};
 use spu_plan::constants::LOADER_SIZE;
+use spu_word::conventions::LOADER_TAG;
 use spu_word::limits::{MAX_TRANSFER_SIZE, QUAD_SIZE, WORD_SIZE};
 
 /// The numbers of a layout on which the loader depends.

@@ -1,7 +1,7 @@
 -- There is a plan or a least end, one alone, and not both.
 use Rattle.std.proofs.Common.{◌≡◌, ℕ, zero, suc, ◌+◌, ◌≤◌, ◌<◌, ◌⊎◌, min, Bool, true, List, [], ◌∷◌, length, All, refl, sym, ap, ◌∙◌, inl, inr, ⊎_elim, subst, arith}
 use Rattle.spu_plan.specs.declared.plan.Plan.{Plan}
-use Rattle.spu_plan.specs.declared.constants.TheConstants.{MIN_BUFFER_SIZE}
+use Rattle.spu_word.specs.declared.limits.TheConstants.{MIN_BUFFER_SIZE}
 use Rattle.spu_plan.specs.declared.input.Mode.{Mode}
 use Rattle.spu_plan.specs.declared.input.Mode.TheVariants.{Auto, Always, Never}
 use Rattle.spu_plan.specs.declared.input.PlanInput.{PlanInput}

@@ -2,7 +2,7 @@
 use Rattle.std.proofs.Common.{◌≡◌, ℕ, zero, suc, ◌+◌, ◌-◌, ◌≤◌, ◌<◌, min, List, [], ◌∷◌, length, get_or, refl, sym, ap, ◌∙◌, ⊎_elim, subst, arith}
 use Rattle.std.specs.Prelude.{Contains}
 use Rattle.std.proofs.lemmas.List.Elements.{Contains-get_or}
-use Rattle.spu_plan.specs.declared.constants.TheConstants.{BUFFER_SIZES, MIN_BUFFER_SIZE}
+use Rattle.spu_word.specs.declared.limits.TheConstants.{BUFFER_SIZES, MIN_BUFFER_SIZE}
 use Rattle.spu_plan.specs.declared.input.PlanInput.{PlanInput}
 use Rattle.spu_plan.specs.Choices.{IsInput, overlay_end}
 use Rattle.spu_plan.specs.Choosing.{IsGreatest, IsLeast}

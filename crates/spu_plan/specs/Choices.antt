@@ -1,8 +1,8 @@
 -- The plan of a program: flat, or with regions for the greatest size of a buffer with which the image ends in time. (No standard has
 -- it: the modes, sizes and the order of what an image holds are this project's own.)
 use Rattle.std.specs.Prelude.{◌≡◌, ℕ, ◌+◌, ◌-◌, ◌*◌, ◌/◌, ◌%◌, ◌<◌, ◌≤◌, ◌⊎◌, Contains, true, length, sum, All}
-use Rattle.spu_word.specs.declared.limits.TheConstants.{DATA_START, QUAD_SIZE, STACK_TOP}
-use Rattle.spu_plan.specs.declared.constants.TheConstants.{BUFFER_ALIGN, BUFFER_COUNTS, BUFFER_SIZES, CONSTANTS_SIZE, LOADER_SIZE, MAX_DATA_END, MAX_PLAN_SECTIONS, STUB_SIZE}
+use Rattle.spu_word.specs.declared.limits.TheConstants.{BUFFER_COUNTS, BUFFER_SIZES, DATA_START, MAX_CODE_SECTIONS, MAX_DATA_END, QUAD_SIZE, STACK_TOP}
+use Rattle.spu_plan.specs.declared.constants.TheConstants.{BUFFER_ALIGN, CONSTANTS_SIZE, LOADER_SIZE, STUB_SIZE}
 use Rattle.spu_plan.specs.declared.plan.TheConstants.{START_SIZE}
 use Rattle.spu_plan.specs.declared.plan.Plan.{Plan}
 use Rattle.spu_plan.specs.declared.input.Mode.{Mode}
@@ -15,7 +15,7 @@ use Rattle.spu_plan.specs.Cuts.{staying, root_sizes, AreCut}
 
 -- what a plan may be asked for
 pub record IsInput (input : PlanInput) : Type 0 where
-  pub sections : length input.sizes ≤ MAX_PLAN_SECTIONS
+  pub sections : length input.sizes ≤ MAX_CODE_SECTIONS
   pub flags : length input.rooted ≡ length input.sizes
   pub quads : All (λ size. size % QUAD_SIZE ≡ 0) input.sizes
   pub data_begins : DATA_START ≤ input.data_end

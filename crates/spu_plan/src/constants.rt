@@ -1,6 +1,4 @@
-//! The sizes of what an overlay image has behind its root, of its buffers, and the limits of a plan.
-
-use spu_word::limits::{MAX_OBJECTS, MAX_SECTIONS};
+//! The sizes of what an overlay image has behind its root.
 
 /// The bytes of a stub, through which a call comes to a function of another region.
 pub const STUB_SIZE: u32 = 16;
@@ -19,21 +17,3 @@ pub const CONSTANTS_SIZE: u32 = 48;
 
 /// The alignment of the buffers.
 pub const BUFFER_ALIGN: u32 = 128;
-
-/// The sizes of a buffer, in bytes, from the greatest on.
-pub const BUFFER_SIZES: [u32; 7] = [65_536, 32_768, 16_384, 8_192, 4_096, 2_048, 1_024];
-
-/// The greatest size of a buffer.
-pub const MAX_BUFFER_SIZE: u32 = 65_536;
-
-/// The least size of a buffer.
-pub const MIN_BUFFER_SIZE: u32 = 1_024;
-
-/// How many buffers an image may have.
-pub const BUFFER_COUNTS: [u32; 4] = [1, 2, 4, 8];
-
-/// The most sections of code of a plan: those of a link.
-pub const MAX_PLAN_SECTIONS: u32 = MAX_OBJECTS * MAX_SECTIONS;
-
-/// The greatest address at which data may end for a plan to be asked for; far beyond the local store.
-pub const MAX_DATA_END: u64 = 1_099_511_627_776;

@@ -1,7 +1,7 @@
 //! The cut of sections of code into regions.
 
 ghost use Rattle.std.specs.Prelude.{◌≡◌, ◌+◌, ◌*◌, ◌^◌, ◌<◌, ◌≤◌, sum, length, IfOk};
-ghost use Rattle.spu_plan.specs.declared.constants.TheConstants.{MAX_PLAN_SECTIONS};
+ghost use Rattle.spu_word.specs.declared.limits.TheConstants.{MAX_CODE_SECTIONS};
 ghost use Rattle.spu_plan.specs.Cuts.{AreCut, root_sizes, stays, staying};
 ghost use Rattle.spu_plan.specs.Cutting.{count_with, total_with};
 
@@ -18,7 +18,7 @@ fn stays(buffer: u32, size: u32, rooted: bool) -> bool
 /// The bytes of the sections that stay in the root.
 #[tactic(auto, using(crate::proofs::Steps::root_at_stays, crate::proofs::Steps::root_at_goes))]
 pub fn root_total(sizes: &[u32], rooted: &[bool], buffer: u32) -> u64
-    requires sections { length sizes.now ≤ MAX_PLAN_SECTIONS }
+    requires sections { length sizes.now ≤ MAX_CODE_SECTIONS }
     requires flags { length rooted.now ≡ length sizes.now }
     ensures value { result ≡ sum (root_sizes (staying buffer sizes.now rooted.now) sizes.now) }
     ensures small { result ≤ 2 ^ 32 * length sizes.now }
@@ -44,7 +44,7 @@ struct Regions {
 impl Regions {
     /// With a further section: in the last region, if a buffer takes it there, else in a new one.
     fn with(self, size: u32, buffer: u32) -> Regions
-        requires few { self.count < MAX_PLAN_SECTIONS }
+        requires few { self.count < MAX_CODE_SECTIONS }
         requires fits { self.total ≤ buffer }
         ensures count { result.count ≡ count_with buffer self.count self.total size }
         ensures total { result.total ≡ total_with buffer self.count self.total size }
@@ -78,7 +78,7 @@ pub fn cut(
     rooted: &[bool],
     buffer: u32,
 ) -> Result<Division, OutOfMemory>
-    requires sections { length sizes.now ≤ MAX_PLAN_SECTIONS }
+    requires sections { length sizes.now ≤ MAX_CODE_SECTIONS }
     requires flags { length rooted.now ≡ length sizes.now }
     ensures { IfOk result (λ cut. AreCut buffer sizes.now rooted.now cut.region_of cut.regions) }
 {

@@ -1,19 +1,17 @@
 //! What a plan is made for, and where images end.
 
 ghost use Rattle.std.specs.Prelude.{◌≡◌, ◌%◌, ◌*◌, ◌^◌, ◌<◌, ◌≤◌, ◌↔◌, All, Contains, IsTrue, sum, length};
-ghost use Rattle.spu_word.specs.declared.limits.TheConstants.{DATA_START, QUAD_SIZE, STACK_TOP};
+ghost use Rattle.spu_word.specs.declared.limits.TheConstants.{BUFFER_COUNTS, BUFFER_SIZES, DATA_START, MAX_BUFFER_SIZE, MAX_CODE_SECTIONS, MAX_DATA_END, QUAD_SIZE, STACK_TOP};
 ghost use Rattle.std.specs.Bool.{OnFalse, OnTrue};
-ghost use Rattle.spu_plan.specs.declared.constants.TheConstants.{BUFFER_COUNTS, BUFFER_SIZES, MAX_BUFFER_SIZE, MAX_DATA_END, MAX_PLAN_SECTIONS};
 ghost use Rattle.spu_plan.specs.Choices.{IsInput, PermitsFlat, PermitsOverlays, flat_end_of, overlay_end, table_end};
 
-use crate::constants::{
-    BUFFER_ALIGN, BUFFER_COUNTS, BUFFER_SIZES, CONSTANTS_SIZE, LOADER_SIZE, MAX_DATA_END,
-    MAX_PLAN_SECTIONS, STUB_SIZE,
-};
+use crate::constants::{BUFFER_ALIGN, CONSTANTS_SIZE, LOADER_SIZE, STUB_SIZE};
 use crate::cutting::root_total;
 use crate::plan::START_SIZE;
 use spu_word::Seq;
-use spu_word::limits::{DATA_START, QUAD_SIZE, STACK_TOP};
+use spu_word::limits::{
+    BUFFER_COUNTS, BUFFER_SIZES, DATA_START, MAX_CODE_SECTIONS, MAX_DATA_END, QUAD_SIZE, STACK_TOP,
+};
 
 /// Whether an image has overlays.
 #[derive(Clone, Copy, PartialEq, Eq, Debug)]
@@ -71,7 +69,7 @@ impl Mode {
 
 /// The bytes of all sections.
 fn total(sizes: &[u32]) -> u64
-    requires { length sizes.now ≤ MAX_PLAN_SECTIONS }
+    requires { length sizes.now ≤ MAX_CODE_SECTIONS }
     ensures value { result ≡ sum sizes.now }
     ensures small { result ≤ 2 ^ 32 * length sizes.now }
 {
@@ -111,7 +109,7 @@ fn is_buffer_size(size: u32) -> bool
 }
 
 impl PlanInput {
-    /// Whether a plan may be made for it: the lists have one length, of at most `MAX_PLAN_SECTIONS`; sizes are multiples of
+    /// Whether a plan may be made for it: the lists have one length, of at most `MAX_CODE_SECTIONS`; sizes are multiples of
     /// `QUAD_SIZE`; the data ends at one, from `DATA_START` to `MAX_DATA_END`; the room is at most `STACK_TOP`; and the number
     /// and the greatest size of buffers are among `BUFFER_COUNTS` and `BUFFER_SIZES`.
     pub fn valid(&self) -> bool
@@ -122,9 +120,9 @@ impl PlanInput {
 
     /// Whether the sections are as `valid` says.
     fn has_sections(&self) -> bool
-        ensures { IsTrue result ↔ ((length self.now.sizes ≤ MAX_PLAN_SECTIONS) × (length self.now.rooted ≡ length self.now.sizes) × All (λ size. size % QUAD_SIZE ≡ 0) self.now.sizes) }
+        ensures { IsTrue result ↔ ((length self.now.sizes ≤ MAX_CODE_SECTIONS) × (length self.now.rooted ≡ length self.now.sizes) × All (λ size. size % QUAD_SIZE ≡ 0) self.now.sizes) }
     {
-        self.sizes.len() <= MAX_PLAN_SECTIONS as usize
+        self.sizes.len() <= MAX_CODE_SECTIONS as usize
             && self.rooted.len() == self.sizes.len()
             && are_quads(self.sizes.as_slice())
     }

@@ -5,11 +5,11 @@ ghost use Rattle.spu_plan.specs.declared.making.PlanFault.TheVariants as faults;
 ghost use Rattle.spu_plan.specs.Choices.{IsFault, IsInput, IsPlan};
 ghost use Rattle.spu_plan.specs.Choosing.{IsChoice, IsLeastEnd};
 
-use crate::constants::{BUFFER_SIZES, MIN_BUFFER_SIZE};
 use crate::cutting::cut;
 use crate::input::PlanInput;
 use crate::plan::{Plan, flat_plan};
 use spu_word::OutOfMemory;
+use spu_word::limits::{BUFFER_SIZES, MIN_BUFFER_SIZE};
 use std::alloc::Global;
 
 /// Why there is no plan.

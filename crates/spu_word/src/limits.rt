@@ -42,6 +42,24 @@ pub const MAX_SYMBOLS: u32 = 262_144;
 /// The most objects of a link.
 pub const MAX_OBJECTS: u32 = 64;
 
+/// The most sections of code of a link.
+pub const MAX_CODE_SECTIONS: u32 = MAX_OBJECTS * MAX_SECTIONS;
+
+/// The greatest address at which the data of a link may end, far beyond the local store.
+pub const MAX_DATA_END: u64 = 1_099_511_627_776;
+
+/// How many buffers an overlay image may have.
+pub const BUFFER_COUNTS: [u32; 4] = [1, 2, 4, 8];
+
+/// The sizes of a buffer, in bytes, from the greatest on.
+pub const BUFFER_SIZES: [u32; 7] = [65_536, 32_768, 16_384, 8_192, 4_096, 2_048, 1_024];
+
+/// The greatest size of a buffer.
+pub const MAX_BUFFER_SIZE: u32 = 65_536;
+
+/// The least size of a buffer.
+pub const MIN_BUFFER_SIZE: u32 = 1_024;
+
 /// The most words that the outbound mailbox of a machine holds.
 pub const OUTBOX_SIZE: u32 = 65_536;
 

@@ -1,4 +1,4 @@
-use Rattle.spu_plan.specs.declared.constants.TheConstants.{BUFFER_COUNTS}
+use Rattle.spu_word.specs.declared.limits.TheConstants.{BUFFER_COUNTS}
 use Rattle.spu_plan.proofs.Members.{is_member}
 use Rattle.spu_plan.proofs.input.is_buffer_count.Goals as goal
 
