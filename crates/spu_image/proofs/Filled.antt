@@ -15,7 +15,7 @@ use Rattle.spu_lift.specs.declared.program.Operand.TheVariants as operand
 use Rattle.spu_lift.specs.StartCode.{start_code}
 use Rattle.spu_lift.specs.Places.{instruction_at, place_in}
 use Rattle.spu_lift.specs.WellFormed.{IsWellFormed}
-use Rattle.spu_plan.specs.Plans.{rounded}
+use Rattle.spu_word.specs.Multiples.{rounded}
 use Rattle.spu_layout.specs.Layouts.{Layout}
 use Rattle.spu_image.specs.Words.{IsWord}
 use Rattle.spu_image.specs.Images.{AreWords, AreSectionWords, Holds}

@@ -11,7 +11,8 @@ use Rattle.spu_plan.specs.declared.input.Mode.{Mode}
 use Rattle.spu_plan.specs.declared.input.Mode.TheVariants.{Never}
 use Rattle.spu_plan.specs.declared.input.PlanInput.{PlanInput}
 use Rattle.spu_plan.specs.declared.plan.Plan.{Plan}
-use Rattle.spu_plan.specs.Plans.{flat_end, flat_plan, rounded}
+use Rattle.spu_plan.specs.Plans.{flat_end, flat_plan}
+use Rattle.spu_word.specs.Multiples.{rounded}
 use Rattle.spu_plan.specs.Choices as choices
 use Rattle.spu_plan.specs.Choices.{IsEnd, IsInput, IsPlan, PermitsOverlays}
 use Rattle.spu_layout.specs.Placing.{FitsFlat, section_sizes, sizes_of}

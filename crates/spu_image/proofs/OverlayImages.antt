@@ -12,7 +12,7 @@ use Rattle.spu_elf.specs.declared.executables.Exec.{Exec}
 use Rattle.spu_lift.specs.declared.program.CodeSection.{CodeSection}
 use Rattle.spu_lift.specs.declared.program.Prog.{Prog}
 use Rattle.spu_plan.specs.declared.plan.Plan.{Plan}
-use Rattle.spu_plan.specs.Plans.{rounded}
+use Rattle.spu_word.specs.Multiples.{rounded}
 use Rattle.spu_layout.specs.declared.layout.Layout as held
 use Rattle.spu_layout.specs.Placing.{buffers_start, constants_start, region_size, region_start, section_sizes, size_in}
 use Rattle.spu_layout.specs.Views.{layout_in}

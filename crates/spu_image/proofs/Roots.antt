@@ -14,7 +14,7 @@ use Rattle.spu_lift.specs.declared.program.Prog.{Prog}
 use Rattle.spu_lift.specs.StartCode.{start_instructions}
 use Rattle.spu_lift.specs.Places.{place_in, instruction_at}
 use Rattle.spu_lift.specs.WellFormed.{IsWellFormed}
-use Rattle.spu_plan.specs.Plans.{rounded}
+use Rattle.spu_word.specs.Multiples.{rounded}
 use Rattle.spu_layout.specs.Layouts.{Layout}
 use Rattle.spu_layout.specs.Placing.{section_sizes, section_start, function_start, at, layout_of}
 use Rattle.spu_layout.proofs.Flats.{planned, section_of, ends_behind}

@@ -21,7 +21,7 @@ use Rattle.spu_lift.specs.declared.program.Prog.{Prog}
 use Rattle.spu_lift.specs.WellFormed.{IsWellFormed, AreInOrder}
 use Rattle.spu_ideal.specs.Machine.{data_byte, labelled}
 use Rattle.spu_plan.specs.declared.plan.Plan.{Plan}
-use Rattle.spu_plan.specs.Plans.{rounded}
+use Rattle.spu_word.specs.Multiples.{rounded}
 use Rattle.spu_plan.specs.Choices.{IsInput}
 use Rattle.spu_plan.specs.declared.input.PlanInput.{PlanInput}
 use Rattle.spu_plan.specs.declared.input.Mode.TheVariants.{Never}

@@ -21,7 +21,7 @@ use Rattle.spu_lift.specs.declared.program.Prog.{Prog}
 use Rattle.spu_lift.specs.declared.symbolic.SymByte.{SymByte}
 use Rattle.spu_lift.specs.declared.symbolic.SymByte.TheVariants.{Num, Part, Unknown}
 use Rattle.spu_lift.specs.StartCode.{start_instructions}
-use Rattle.spu_plan.specs.Plans.{rounded}
+use Rattle.spu_word.specs.Multiples.{rounded}
 use Rattle.spu_ideal.specs.Machine.{data_byte}
 use Rattle.spu_layout.specs.Layouts.{Layout}
 use Rattle.spu_layout.specs.Labels.{code}

@@ -10,7 +10,7 @@ use Rattle.spu_word.specs.declared.limits.TheConstants.{STORE_SIZE}
 use Rattle.spu_lift.specs.declared.program.CodeSection.{CodeSection}
 use Rattle.spu_lift.specs.declared.program.Prog.{Prog}
 use Rattle.spu_plan.specs.declared.plan.Plan.{Plan}
-use Rattle.spu_plan.specs.Plans.{rounded}
+use Rattle.spu_word.specs.Multiples.{rounded}
 use Rattle.spu_layout.specs.Placing.{sizes_of, size_in, region_start, section_start, buffers_start}
 use Rattle.spu_layout.specs.Views.{AreStarts, AreEnds, LieInStore}
 use Rattle.spu_layout.proofs.Sizes.{size_at}

@@ -13,7 +13,8 @@ use Rattle.spu_lift.specs.StartCode.{start_code}
 use Rattle.spu_lift.specs.Places.{place_in, instruction_at}
 use Rattle.spu_lift.specs.WellFormed.{IsWellFormed, AreInOrder}
 use Rattle.spu_plan.specs.declared.plan.Plan.{Plan}
-use Rattle.spu_plan.specs.Plans.{rounded, flat_plan}
+use Rattle.spu_plan.specs.Plans.{flat_plan}
+use Rattle.spu_word.specs.Multiples.{rounded}
 use Rattle.spu_layout.specs.Layouts.{IsLaid, IsFlat}
 use Rattle.spu_layout.specs.Placing.{sizes_of, size_in, root_end, section_start, function_start, region_start, at, layout_of, FitsFlat}
 use Rattle.spu_layout.proofs.Steps.{next_place}

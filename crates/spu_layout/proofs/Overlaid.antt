@@ -15,7 +15,8 @@ use Rattle.spu_lift.specs.Places.{place_in, instruction_at, IsPlace}
 use Rattle.spu_lift.specs.WellFormed.{IsWellFormed}
 use Rattle.spu_plan.specs.declared.input.PlanInput.{PlanInput}
 use Rattle.spu_plan.specs.declared.plan.Plan.{Plan}
-use Rattle.spu_plan.specs.Plans.{rounded, flat_plan}
+use Rattle.spu_plan.specs.Plans.{flat_plan}
+use Rattle.spu_word.specs.Multiples.{rounded}
 use Rattle.spu_plan.specs.Cuts.{AreCut}
 use Rattle.spu_plan.specs.Choices.{IsInput, IsFlatPlan, IsOverlayPlan, root_total}
 use Rattle.spu_layout.specs.Layouts.{IsLaid}

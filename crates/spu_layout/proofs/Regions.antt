@@ -5,7 +5,7 @@ use Rattle.std.specs.List.{concat}
 use Rattle.std.proofs.lemmas.Bool.{eq-eqb, ne_eqb, cases_lt}
 use Rattle.std.proofs.lemmas.List.Sums.{sum_by-cons}
 use Rattle.spu_lift.specs.declared.program.CodeSection.{CodeSection}
-use Rattle.spu_plan.specs.Plans.{rounded}
+use Rattle.spu_word.specs.Multiples.{rounded}
 use Rattle.spu_plan.specs.Cuts.{staying, root_sizes, overlaid, AreRegions, numbers, spread, AreCut}
 use Rattle.spu_layout.specs.Placing.{section_sizes, size_in}
 

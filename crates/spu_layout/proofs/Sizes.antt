@@ -5,7 +5,7 @@ use Rattle.std.proofs.lemmas.List.{length-map}
 use Rattle.std.proofs.lemmas.List.Sums.{sum_by-cons, sum-map, sum_by_more_le}
 use Rattle.std.proofs.lemmas.Option.{slice_get_within}
 use Rattle.spu_lift.specs.declared.program.CodeSection.{CodeSection}
-use Rattle.spu_plan.specs.Plans.{rounded}
+use Rattle.spu_word.specs.Multiples.{rounded}
 use Rattle.spu_layout.specs.Placing.{section_sizes, size_in}
 
 pub flat_size : (sizes : List ℕ) (k : ℕ) → size_in 0 sizes (replicate (length sizes) 0) k ≡ sum (take k sizes)

@@ -1,15 +1,18 @@
 -- The layout of a program by a plan: from the end of the data upward the start quadword, the start code and a zero word, and the
 -- sections of the root in order; in an overlay image then the stubs, the loader with its quadwords, the region table, and the
 -- buffers. The stack is the last part of the local store.
-use Rattle.std.specs.Prelude.{◌≡◌, ◌≤◌, ℕ, zero, suc, ◌+◌, ◌-◌, ◌*◌, ◌/◌, ◌%◌, ◌==◌, if◌then◌else◌, List, ◌∷◌, length, map, Option, Some, None, slice_get, slice_index}
+use Rattle.std.specs.Prelude.{◌≡◌, ◌≤◌, ℕ, zero, suc, ◌+◌, ◌-◌, ◌*◌, ◌%◌, ◌==◌, if◌then◌else◌, List, ◌∷◌, length, map, Option, Some, None, slice_get, slice_index}
 use Rattle.spu_word.specs.declared.limits.TheConstants.{DATA_START, QUAD_SIZE, STACK_TOP, STORE_SIZE, WORD_SIZE}
+use Rattle.spu_word.specs.Multiples.{rounded}
 use Rattle.spu_lift.specs.declared.program.CodeSection.{CodeSection}
 use Rattle.spu_lift.specs.declared.program.Function.{Function}
 use Rattle.spu_lift.specs.declared.program.Prog.{Prog}
 use Rattle.spu_plan.specs.declared.plan.TheConstants.{START_SIZE}
 use Rattle.spu_plan.specs.declared.plan.Plan.{Plan}
-use Rattle.spu_plan.specs.Plans.{rounded, flat_plan}
-use Rattle.spu_plan.specs.declared.constants.TheConstants.{BUFFER_ALIGN, CONSTANTS_SIZE, LOADER_CODE_SIZE, LOADER_SIZE, RETURN_OFFSET, STUB_SIZE}
+use Rattle.spu_plan.specs.Plans.{flat_plan}
+use Rattle.spu_plan.specs.Tails.{buffers_from, constants_from, loader_from, slots_from, table_from}
+use Rattle.spu_plan.specs.Tails as tails
+use Rattle.spu_plan.specs.declared.constants.TheConstants.{LOADER_CODE_SIZE, RETURN_OFFSET, STUB_SIZE}
 use Rattle.spu_layout.specs.Layouts.{Layout, span}
 
 -- the sizes that a plan is made for
@@ -39,24 +42,24 @@ root_end p plan = root_start p + region_size p plan 0
 abbrev pub stub : Prog → Plan → ℕ → ℕ
 stub p plan f = root_end p plan + STUB_SIZE * (f - 1)
 
+-- the parts of an overlay image behind it
 abbrev pub loader_start : Prog → Plan → ℕ
-loader_start p plan = root_end p plan + STUB_SIZE * (length p.functions - 1)
+loader_start p plan = loader_from (root_end p plan) (length p.functions - 1)
 
--- the mapped quadwords, one for each buffer; the loader's constants; the table, with an entry for the root and one for each section
 abbrev pub slots_start : Prog → Plan → ℕ
-slots_start p plan = loader_start p plan + LOADER_SIZE
+slots_start p plan = slots_from (root_end p plan) (length p.functions - 1)
 
 abbrev pub constants_start : Prog → Plan → ℕ
-constants_start p plan = slots_start p plan + QUAD_SIZE * plan.buffers
+constants_start p plan = constants_from (root_end p plan) (length p.functions - 1) plan.buffers
 
 abbrev pub table_start : Prog → Plan → ℕ
-table_start p plan = constants_start p plan + CONSTANTS_SIZE
+table_start p plan = table_from (root_end p plan) (length p.functions - 1) plan.buffers
 
 abbrev pub table_end : Prog → Plan → ℕ
-table_end p plan = table_start p plan + QUAD_SIZE * (length p.code + 1)
+table_end p plan = tails.table_end (root_end p plan) (length p.functions - 1) plan.buffers (length p.code)
 
 abbrev pub buffers_start : Prog → Plan → ℕ
-buffers_start p plan = (table_end p plan + (BUFFER_ALIGN - 1)) / BUFFER_ALIGN * BUFFER_ALIGN
+buffers_start p plan = buffers_from (root_end p plan) (length p.functions - 1) plan.buffers (length p.code)
 
 -- ---- places
 

@@ -4,7 +4,7 @@ ghost use Rattle.std.specs.Prelude.{◌≡◌, ◌+◌, ◌-◌, ◌*◌, ◌<�
 ghost use Rattle.spu_word.specs.declared.limits.TheConstants.{DATA_START, MAX_SECTION_SIZE, MAX_STACK_LIMIT, STORE_SIZE};
 ghost use Rattle.spu_lift.specs.declared.program.CodeSection.{CodeSection};
 ghost use Rattle.spu_lift.specs.WellFormed.{IsWellFormed};
-ghost use Rattle.spu_plan.specs.Plans.{rounded};
+ghost use Rattle.spu_word.specs.Multiples.{rounded};
 ghost use Rattle.spu_layout.specs.Layouts.{AreDisjoint, areas, span};
 ghost use Rattle.spu_layout.specs.Placing.{layout_of, root_end, root_start, section_sizes, table_end};
 ghost use Rattle.spu_layout.specs.Planned.{Fits};
@@ -17,16 +17,8 @@ use spu_plan::constants::{
 };
 use spu_plan::{Plan, START_SIZE};
 use spu_word::limits::{DATA_START, QUAD_SIZE, STACK_TOP, STORE_SIZE};
-use spu_word::{OutOfMemory, Seq};
+use spu_word::{OutOfMemory, Seq, rounded};
 use std::alloc::Global;
-
-/// A size rounded up to whole quadwords.
-fn rounded(size: u32) -> u32
-    requires { size ≤ MAX_SECTION_SIZE }
-    ensures { result ≡ rounded size }
-{
-    (size + (QUAD_SIZE - 1)) / QUAD_SIZE * QUAD_SIZE
-}
 
 /// The sizes of sections of code, each rounded up to whole quadwords: those that a plan is made for.
 pub fn section_sizes(alloc: Global, code: &[CodeSection]) -> Result<Seq<u32>, OutOfMemory>

@@ -11,7 +11,8 @@ use Rattle.spu_elf.specs.declared.objects.Section.{Section}
 use Rattle.spu_elf.specs.declared.objects.Object.{Object}
 use Rattle.spu_lift.specs.declared.program.Part.{Part}
 use Rattle.spu_lift.specs.declared.program.TheConstants.{MAX_ALIGN}
-use Rattle.spu_lift.specs.Tables.{all_sections, data_address, data_end_of, end_of, holds_data, multiple_from, placed_from, section_at, sections_before}
+use Rattle.spu_lift.specs.Tables.{all_sections, data_address, data_end_of, end_of, holds_data, placed_from, section_at, sections_before}
+use Rattle.spu_word.specs.Multiples.{multiple_from}
 use Rattle.spu_lift.specs.WellFormed.{AreInOrder}
 use Rattle.spu_lift.proofs.PlacedLemmas.{next_multiple_behind, next_multiple_there}
 use Rattle.spu_lift.proofs.SectionNumbers.{sections_around}

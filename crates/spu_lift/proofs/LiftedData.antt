@@ -39,7 +39,8 @@ use Rattle.spu_lift.specs.declared.program.Ear.{Ear}
 use Rattle.spu_lift.specs.declared.program.Global_.{Global_}
 use Rattle.spu_lift.specs.declared.program.Prog.{Prog}
 use Rattle.spu_lift.specs.WellFormed.{AreApart, AreDistinct, AreEars, AreInOrder, IsEar, IsEarOf, IsFunction, IsGlobal, IsPart, IsTakenTarget}
-use Rattle.spu_lift.specs.Tables.{DataPlace, all_sections, code_number, data_address, data_end_of, data_place, data_place_by, data_place_in, end_of, holds_code, holds_data, is_code, is_definition, multiple_from, placed_from, reloc_at, section_at, sections_before, sections_of, symbol_at, symbols_of}
+use Rattle.spu_lift.specs.Tables.{DataPlace, all_sections, code_number, data_address, data_end_of, data_place, data_place_by, data_place_in, end_of, holds_code, holds_data, is_code, is_definition, placed_from, reloc_at, section_at, sections_before, sections_of, symbol_at, symbols_of}
+use Rattle.spu_word.specs.Multiples.{multiple_from}
 use Rattle.spu_lift.specs.Extents.{AreRising, Extent, IsExtent, covering, covers, extent_name, extent_of, is_function, label_of, place_of}
 use Rattle.spu_lift.specs.Meanings.{IsOnHint, meaning_of}
 use Rattle.spu_lift.specs.Lifted.{IsPartOf, IsWordLabel, Stands, ear_at, ear_of, ear_place, global_at, global_of, is_ear_name, of_symbols, prefix_size}

@@ -18,7 +18,8 @@ use Rattle.spu_elf.specs.declared.objects.Section.{Section}
 use Rattle.spu_elf.specs.declared.objects.Object.{Object}
 use Rattle.spu_lift.specs.declared.sections.Placing.{Placing}
 use Rattle.spu_lift.specs.declared.sections.Sections.{Sections}
-use Rattle.spu_lift.specs.Tables.{all_sections, data_address, end_of, holds_code, holds_data, multiple_from, placed_from, section_at, sections_before, sections_of}
+use Rattle.spu_lift.specs.Tables.{all_sections, data_address, end_of, holds_code, holds_data, placed_from, section_at, sections_before, sections_of}
+use Rattle.spu_word.specs.Multiples.{multiple_from}
 use Rattle.spu_lift.specs.Placed.{ArePlaced, ArePlacedFrom, HasRoom, all_placings, count_after, end_after, placing_at, placing_from, placing_of, placings_from}
 
 exact : (q m r : ℕ) → r < m → 0 < r → (q * m + r + (m - 1)) / m ≡ q + 1

@@ -1,11 +1,12 @@
 -- What stands where in a list of objects: their sections, symbols and relocations by number, the addresses of data, the numbers of
 -- sections of code, and global definitions. Objects, sections, symbols and relocations are those of the ELF format; where data lies
 -- is this project's own.
-use Rattle.std.specs.Prelude.{ℕ, ◌+◌, ◌-◌, ◌*◌, ◌/◌, max, Bool, true, false, not, ◌&&◌, ◌==◌, if◌then◌else◌, nat_lt, List, [], ◌++◌, length, take, fold, filter, Option, Some, None, slice_get}
+use Rattle.std.specs.Prelude.{ℕ, ◌+◌, max, Bool, true, false, not, ◌&&◌, ◌==◌, if◌then◌else◌, nat_lt, List, [], ◌++◌, length, take, fold, filter, Option, Some, None, slice_get}
 use Rattle.std.specs.List.{find, filter_map, flat_map, enumerate_from}
 use Rattle.std.specs.Option.{option_and_then, option_map_or}
 use Rattle.std.specs.Str.{bytes_eq}
 use Rattle.spu_word.specs.declared.limits.TheConstants.{DATA_START, QUAD_SIZE}
+use Rattle.spu_word.specs.Multiples.{multiple_from}
 use Rattle.spu_elf.specs.declared.objects.SecKind.{SecKind}
 use Rattle.spu_elf.specs.declared.objects.SecKind.TheVariants as kinds
 use Rattle.spu_elf.specs.declared.objects.Section.{Section}
@@ -61,10 +62,6 @@ sections_before os n k = all_sections (take n os) ++ take k (sections_of os n)
 -- the number of a section of code
 abbrev pub code_number : List Object → ℕ → ℕ → ℕ
 code_number os n k = length (filter holds_code (sections_before os n k))
-
--- the first multiple of m from n on
-abbrev pub multiple_from : ℕ → ℕ → ℕ
-multiple_from n m = (n + (m - 1)) / m * m
 
 -- each section of data is at the first multiple of its alignment, and of a quadword, from the end of the one before
 abbrev pub placed_from : ℕ → Section → ℕ

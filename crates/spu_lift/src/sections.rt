@@ -4,7 +4,7 @@ ghost use Rattle.std.specs.Prelude.{◌≡◌, ◌+◌, ◌*◌, ◌^◌, ◌<�
 ghost use Rattle.spu_word.specs.declared.limits.TheConstants.{MAX_OBJECTS, MAX_SECTION_SIZE, QUAD_SIZE};
 ghost use Rattle.spu_elf.specs.Validity.{IsWellFormedSection};
 ghost use Rattle.spu_elf.specs.WellFormed.{IsWellFormed};
-ghost use Rattle.spu_lift.specs.Tables.{multiple_from};
+ghost use Rattle.spu_word.specs.Multiples.{multiple_from};
 ghost use Rattle.spu_lift.specs.Placed.{ArePlaced, HasRoom, count_after, end_after, placing_at, placing_from, placings_from};
 
 use spu_elf::{Object, SecKind, Section};

@@ -1,8 +1,7 @@
 -- The plan of a program: flat, or with regions for the greatest size of a buffer with which the image ends in time. (No standard has
 -- it: the modes, sizes and the order of what an image holds are this project's own.)
-use Rattle.std.specs.Prelude.{◌≡◌, ℕ, ◌+◌, ◌-◌, ◌*◌, ◌/◌, ◌%◌, ◌<◌, ◌≤◌, ◌⊎◌, Contains, true, length, sum, All}
+use Rattle.std.specs.Prelude.{◌≡◌, ℕ, ◌+◌, ◌*◌, ◌%◌, ◌<◌, ◌≤◌, ◌⊎◌, Contains, true, length, sum, All}
 use Rattle.spu_word.specs.declared.limits.TheConstants.{BUFFER_COUNTS, BUFFER_SIZES, DATA_START, MAX_CODE_SECTIONS, MAX_DATA_END, QUAD_SIZE, STACK_TOP}
-use Rattle.spu_plan.specs.declared.constants.TheConstants.{BUFFER_ALIGN, CONSTANTS_SIZE, LOADER_SIZE, STUB_SIZE}
 use Rattle.spu_plan.specs.declared.plan.TheConstants.{START_SIZE}
 use Rattle.spu_plan.specs.declared.plan.Plan.{Plan}
 use Rattle.spu_plan.specs.declared.input.Mode.{Mode}
@@ -11,6 +10,7 @@ use Rattle.spu_plan.specs.declared.input.PlanInput.{PlanInput}
 use Rattle.spu_plan.specs.declared.making.PlanFault.{PlanFault}
 use Rattle.spu_plan.specs.declared.making.PlanFault.TheVariants.{TooLarge, OutOfMemory}
 use Rattle.spu_plan.specs.Plans.{flat_end, flat_plan}
+use Rattle.spu_plan.specs.Tails.{buffers_from}
 use Rattle.spu_plan.specs.Cuts.{staying, root_sizes, AreCut}
 
 -- what a plan may be asked for
@@ -49,14 +49,12 @@ flat_end_of input = flat_end input.data_end input.sizes
 abbrev pub root_total : PlanInput → ℕ → ℕ
 root_total input buffer = sum (root_sizes (staying buffer input.sizes input.rooted) input.sizes)
 
--- behind data, start code and root come the stubs of all functions, the loader, a mapped quadword a buffer, the loader's constants,
--- and the table, with an entry for the root and one for each section; then, at a multiple of their alignment, the buffers
-abbrev pub table_end : PlanInput → ℕ → ℕ
-table_end input buffer = input.data_end + START_SIZE + root_total input buffer + STUB_SIZE * input.functions + LOADER_SIZE + QUAD_SIZE * input.buffers + CONSTANTS_SIZE
-    + QUAD_SIZE * (length input.sizes + 1)
+-- where its root ends
+abbrev pub root_end : PlanInput → ℕ → ℕ
+root_end input buffer = input.data_end + START_SIZE + root_total input buffer
 
 abbrev pub overlay_end : PlanInput → ℕ → ℕ
-overlay_end input buffer = (table_end input buffer + (BUFFER_ALIGN - 1)) / BUFFER_ALIGN * BUFFER_ALIGN + input.buffers * buffer
+overlay_end input buffer = buffers_from (root_end input buffer) input.functions input.buffers (length input.sizes) + input.buffers * buffer
 
 -- where the image of a plan ends that the mode permits
 pub data IsEnd (input : PlanInput) (end : ℕ) : Type 0 where

@@ -1,4 +1,5 @@
 pub mod Plans
+pub mod Tails
 pub mod Cuts
 pub mod Choices
 pub mod Cutting

@@ -1,13 +1,8 @@
 -- Plans: which sections of code of a program stay in the root of its image. Code sections stand one behind the other, each at a
 -- multiple of a quadword. (No standard has them; that a flat image is one whose code is all in the root is this project's own term.)
-use Rattle.std.specs.Prelude.{ℕ, ◌+◌, ◌-◌, ◌*◌, ◌/◌, false, List, length, sum, replicate}
-use Rattle.spu_word.specs.declared.limits.TheConstants.{QUAD_SIZE}
+use Rattle.std.specs.Prelude.{ℕ, ◌+◌, false, List, length, sum, replicate}
 use Rattle.spu_plan.specs.declared.plan.TheConstants.{START_SIZE}
 use Rattle.spu_plan.specs.declared.plan.Plan.{Plan}
-
--- a size rounded up to whole quadwords
-abbrev pub rounded : ℕ → ℕ
-rounded n = (n + (QUAD_SIZE - 1)) / QUAD_SIZE * QUAD_SIZE
 
 -- where a flat image ends, whose data ends at an address: behind the start code and all sections of code
 abbrev pub flat_end : ℕ → List ℕ → ℕ

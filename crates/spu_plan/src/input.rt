@@ -3,7 +3,8 @@
 ghost use Rattle.std.specs.Prelude.{◌≡◌, ◌%◌, ◌*◌, ◌^◌, ◌<◌, ◌≤◌, ◌↔◌, All, Contains, IsTrue, sum, length};
 ghost use Rattle.spu_word.specs.declared.limits.TheConstants.{BUFFER_COUNTS, BUFFER_SIZES, DATA_START, MAX_BUFFER_SIZE, MAX_CODE_SECTIONS, MAX_DATA_END, QUAD_SIZE, STACK_TOP};
 ghost use Rattle.std.specs.Bool.{OnFalse, OnTrue};
-ghost use Rattle.spu_plan.specs.Choices.{IsInput, PermitsFlat, PermitsOverlays, flat_end_of, overlay_end, table_end};
+ghost use Rattle.spu_plan.specs.Choices.{IsInput, PermitsFlat, PermitsOverlays, flat_end_of, overlay_end, root_end};
+ghost use Rattle.spu_plan.specs.Tails.{table_end};
 
 use crate::constants::{BUFFER_ALIGN, CONSTANTS_SIZE, LOADER_SIZE, STUB_SIZE};
 use crate::cutting::root_total;
@@ -153,7 +154,7 @@ impl PlanInput {
     /// Where the table of an overlay image ends, if its buffers have this size.
     fn table_end(&self, buffer: u32) -> u64
         requires { IsInput self.now }
-        ensures value { result ≡ table_end self.now buffer }
+        ensures value { result ≡ table_end (root_end self.now buffer) self.now.functions self.now.buffers (length self.now.sizes) }
         ensures small { result ≤ 2 ^ 52 }
     {
         let root = root_total(self.sizes.as_slice(), self.rooted.as_slice(), buffer);

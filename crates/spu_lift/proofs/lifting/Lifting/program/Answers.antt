@@ -2,7 +2,8 @@ use Rattle.std.proofs.Common.{◌≡◌, Bool, length, ap, subst, sym, ◌∙◌
 use Rattle.spu_word.specs.declared.limits.TheConstants.{QUAD_SIZE}
 use Rattle.spu_lift.specs.declared.functions.Place.{Place}
 use Rattle.spu_lift.specs.declared.program.Prog.{Prog}
-use Rattle.spu_lift.specs.Tables.{data_end_of, multiple_from}
+use Rattle.spu_lift.specs.Tables.{data_end_of}
+use Rattle.spu_word.specs.Multiples.{multiple_from}
 use Rattle.spu_lift.specs.TakenPlaces.{takes}
 use Rattle.spu_lift.specs.Built.{AreFunctionsBuilt}
 use Rattle.spu_lift.proofs.ProgramBuilt.{AreFaultless, program_is}
