@@ -20,7 +20,8 @@ use Rattle.spu_ideal.specs.declared.quads.SymQuad.{SymQuad}
 use Rattle.spu_ideal.specs.declared.state.Update.TheVariants.{NoUpdate}
 use Rattle.spu_ideal.specs.Bytes.{numbers}
 use Rattle.spu_ideal.specs.State.{Sym, goes_to, outside, put}
-use Rattle.spu_ideal.specs.Landing.{all_land, can_land, land_by, no_image, numbers_from, placed}
+use Rattle.spu_ideal.specs.Landing.{can_land, land_by, no_image, numbers_from, placed}
+use Rattle.spu_ideal.specs.Fills.{all_land}
 use Rattle.spu_ideal.specs.Channels.{answered, answers_by, contents_of, lands, lands_tags}
 use Rattle.spu_ideal.specs.View.{store_of}
 

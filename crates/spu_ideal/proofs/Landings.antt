@@ -13,7 +13,8 @@ use Rattle.spu_exec.specs.Tags.{with_tags}
 use Rattle.spu_lift.specs.declared.symbolic.SymByte.{SymByte}
 use Rattle.spu_lift.specs.declared.symbolic.SymByte.TheVariants.{Num}
 use Rattle.spu_ideal.specs.Bytes.{is_number}
-use Rattle.spu_ideal.specs.Landing.{Contents, all_land, are_numbers, can_land, can_land_by, fills, fills_by, is_readable, land_by, lands_by, no_image, numbers_from, placed, some_fills}
+use Rattle.spu_ideal.specs.Landing.{Contents, are_numbers, can_land, can_land_by, land_by, no_image, numbers_from, placed}
+use Rattle.spu_ideal.specs.Fills.{all_land, fills, fills_by, is_readable, lands_by, some_fills}
 use Rattle.spu_exec.proofs.AreaWrites.{same_length}
 
 -- ---- which bytes are numbers after some have landed

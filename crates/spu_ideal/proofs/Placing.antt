@@ -10,7 +10,8 @@ use Rattle.spu_exec.specs.declared.transfers.Transfer.{Transfer}
 use Rattle.spu_lift.specs.declared.symbolic.SymByte.{SymByte}
 use Rattle.spu_lift.specs.declared.symbolic.SymByte.TheVariants.{Num, Part, Unknown}
 use Rattle.spu_ideal.specs.Bytes.{is_number, number_of}
-use Rattle.spu_ideal.specs.Landing.{all_land, is_readable, lands_well, numbers_from, placed, some_fills}
+use Rattle.spu_ideal.specs.Landing.{numbers_from, placed}
+use Rattle.spu_ideal.specs.Fills.{all_land, is_readable, lands_well, some_fills}
 
 -- ---- placing
 

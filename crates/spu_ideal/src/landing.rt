@@ -9,16 +9,8 @@ ghost use Rattle.spu_exec.specs.Transfers.{reached};
 ghost use Rattle.spu_lift.specs.declared.symbolic.SymByte.TheVariants.{Num};
 ghost use Rattle.spu_ideal.specs.Bytes.{is_number as is_number_of};
 ghost use Rattle.spu_ideal.specs.Channels.{answers, answers_by, lands, lands_tags};
-ghost use Rattle.spu_ideal.specs.Landing.{
-  all_land,
-  fills as fills_in,
-  is_readable as is_readable_in,
-  lands_well as lands_well_in,
-  no_image,
-  numbers_from,
-  placed,
-  some_fills as some_fills_in,
-};
+ghost use Rattle.spu_ideal.specs.Landing.{no_image, numbers_from, placed};
+ghost use Rattle.spu_ideal.specs.Fills.{all_land, fills as fills_in, is_readable as is_readable_in, lands_well as lands_well_in, some_fills as some_fills_in};
 ghost use Rattle.spu_ideal.specs.View.{state_of, store_of};
 
 use crate::byte_moves::{is_number, number_or_zero};

@@ -1,6 +1,6 @@
 use Rattle.std.proofs.Common.{◌≡◌, [], take, drop}
 use Rattle.spu_exec.specs.Tags.{has_tag}
-use Rattle.spu_ideal.specs.Landing.{all_land}
+use Rattle.spu_ideal.specs.Fills.{all_land}
 use Rattle.spu_ideal.specs.View.{store_of}
 use Rattle.spu_ideal.proofs.landing.can_land.Given as goal
 

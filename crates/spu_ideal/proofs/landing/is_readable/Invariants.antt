@@ -1,6 +1,6 @@
 use Rattle.std.proofs.Common.{◌≡◌, ◌+◌, ◌-◌}
 use Rattle.spu_exec.specs.Tags.{has_tag}
-use Rattle.spu_ideal.specs.Landing.{is_readable}
+use Rattle.spu_ideal.specs.Fills.{is_readable}
 use Rattle.spu_ideal.specs.View.{store_of}
 use Rattle.spu_ideal.proofs.landing.is_readable.Given as goal
 

@@ -1,6 +1,6 @@
 use Rattle.std.proofs.Common.{◌≡◌, drop}
 use Rattle.spu_exec.specs.Tags.{has_tag}
-use Rattle.spu_ideal.specs.Landing.{some_fills}
+use Rattle.spu_ideal.specs.Fills.{some_fills}
 use Rattle.spu_ideal.proofs.landing.some_fills.Given as goal
 
 abbrev pub invariant-loop-t : goal.invariant-loop-t
