@@ -10,9 +10,7 @@ use crate::constants::{
     FIRST_ENTRY, HANDLE_ALIGN, HANDLE_IMAGE, HANDLE_SIZE, HANDLE_TOE, IMAGE_ALIGN, R_PPC_ADDR32,
     TOE_ADDRESS, TOE_ENTRY_SIZE,
 };
-use spu_elf::{
-    Object, Reloc, SecKind, Section, SymKind, SymPlace, Symbol, area_name, is_entry,
-};
+use spu_elf::{Object, Reloc, SecKind, Section, SymKind, SymPlace, Symbol, area_name, is_entry};
 use spu_word::{Bytes, Name, OutOfMemory, Seq};
 use std::alloc::Global;
 

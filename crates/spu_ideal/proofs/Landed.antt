@@ -54,13 +54,9 @@ pub answers_same : (f g : ℕ → Bool) (r : ℕ) (p : Prog) (s : Sym) → with_
 answers_same f g r p s land stay = ap₂ (answers_with r p s) land stay
   where
     answers_with : ℕ → Prog → Sym → List Transfer → List Transfer → Sym
-    answers_with r p s ts left = if can_land ts (contents_of s)
-    then goes_to (instruction_at p s.f (s.i + 1)) s.f (s.i + 1) s (record (lands ts s) {
-      queue = left;
-      regs = put r (numbers (quad_of (status s.mask left) 0 0 0)) s.regs;
-      update = NoUpdate;
-    })
-    else outside reason.NotNumber s
+    answers_with r p s ts left =
+        if can_land ts (contents_of s) then goes_to (instruction_at p s.f (s.i + 1)) s.f (s.i + 1) s (record (lands ts s) { queue = left; regs = put r (numbers (quad_of (status s.mask left) 0 0 0)) s.regs; update = NoUpdate })
+        else outside reason.NotNumber s
 
 -- the state behind them, where it goes on
 pub answered_is : (test : ℕ → Bool) (r : ℕ) (p : Prog) (s s1 : Sym) (x : SymInst) (quad : List SymByte)

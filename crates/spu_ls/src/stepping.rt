@@ -25,10 +25,12 @@ use spu_elf::{Symbol, area_name, is_entry};
 use spu_exec::areas::copied_areas;
 use spu_exec::channels::{
     INBOX_SIZE, MFC_CMD, MFC_EAH, MFC_EAL, MFC_LSA, MFC_RD_TAG_MASK, MFC_RD_TAG_STAT, MFC_SIZE,
-    MFC_TAG_ID, MFC_WR_TAG_MASK, MFC_WR_TAG_UPDATE, SPU_RD_IN_MBOX, SPU_WR_OUT_MBOX, count_of, is_counted, is_update,
+    MFC_TAG_ID, MFC_WR_TAG_MASK, MFC_WR_TAG_UPDATE, SPU_RD_IN_MBOX, SPU_WR_OUT_MBOX, count_of,
+    is_counted, is_update,
 };
 use spu_exec::{
-    Form, Transfer, address, apply_to, form_of, halts, is_taken, landing_tags, quad_for, status, take_landing, test,
+    Form, Transfer, address, apply_to, form_of, halts, is_taken, landing_tags, quad_for, status,
+    take_landing, test,
 };
 use spu_isa::{Inst, Kind, Op, decode};
 use spu_word::limits::{OUTBOX_SIZE, QUEUE_SIZE, REGISTER_COUNT, STORE_SIZE, WORD_SIZE};
