@@ -23,52 +23,12 @@ use Rattle.spu_cesof.specs.Unpacking.{strings_in, name_in, entry_names_in, joine
 use Rattle.spu_cesof.specs.declared.places.Places.{Places}
 use Rattle.spu_cesof.proofs.Spelled.{Laid, strings_of, entries_of, row}
 use Rattle.spu_elf.specs.Validity.{IsName}
+use Rattle.spu_elf.proofs.ExecutableFront.{Ident, ident}
+use Rattle.spu_elf.proofs.ExecutableTables.{null_stands}
 use Rattle.spu_elf.proofs.SpelledSymbols.{byte_stands}
-use Rattle.spu_cesof.proofs.NamesBack.{Printed, null_stands, symbol_stands, left_of, NamedBack, named_back, entries_named, length_names_in, names_joined, NamesBack, names_back}
+use Rattle.spu_cesof.proofs.NamesBack.{Printed, symbol_stands, left_of, NamedBack, named_back, entries_named, length_names_in, names_joined, NamesBack, names_back}
 
 -- ---- the header of the file
-
-record Ident (b : List ℕ) : Type 0 where
-  small : length b ≤ 4194304
-  long : 52 ≤ length b
-  magic : be_number b 0 ≡ 0x7f454c46
-  class : slice_index b 4 ≡ 1
-  order : slice_index b 5 ≡ 2
-  version : slice_index b 6 ≡ 1
-  machine : be_half_number b 18 ≡ 20
-  kind : be_half_number b 16 ≡ 1
-
-ident : (b : List ℕ) → ident_checks 20 1 b ≡ None → Ident b
-unfolding ident_checks
-ident b e =
-    let large : Option ElfFault = fails (nat_lt 4194304 (length b)) kinds.TooLarge 4194304 in
-    let short : Option ElfFault = fails (nat_lt (length b) 52) kinds.Truncated (length b) in
-    let magic : Option ElfFault = fails (not (be_number b 0 == 0x7f454c46)) kinds.NotElf 0 in
-    let class : Option ElfFault = fails (not (slice_index b 4 == 1)) kinds.WrongClass 4 in
-    let order : Option ElfFault = fails (not (slice_index b 5 == 2)) kinds.WrongClass 5 in
-    let version : Option ElfFault = fails (not (slice_index b 6 == 1)) kinds.WrongClass 6 in
-    let machine : Option ElfFault = fails (not (be_half_number b 18 == 20)) kinds.WrongMachine 18 in
-    let kind : Option ElfFault = fails (not (be_half_number b 16 == 1)) kinds.WrongKind 16 in
-    let p1 = both_pass large (short then_check magic then_check class then_check order then_check version then_check machine then_check kind) e in
-    let p2 = both_pass short (magic then_check class then_check order then_check version then_check machine then_check kind) p1.1 in
-    let p3 = both_pass magic (class then_check order then_check version then_check machine then_check kind) p2.1 in
-    let p4 = both_pass class (order then_check version then_check machine then_check kind) p3.1 in
-    let p5 = both_pass order (version then_check machine then_check kind) p4.1 in
-    let p6 = both_pass version (machine then_check kind) p5.1 in
-    let p7 = both_pass machine kind p6.1 in
-    record {
-      small = ltb-false _ _ (not_failing _ _ _ p1.0);
-      long = ltb-false _ _ (not_failing _ _ _ p2.0);
-      magic = same _ _ _ _ p3.0;
-      class = same _ _ _ _ p4.0;
-      order = same _ _ _ _ p5.0;
-      version = same _ _ _ _ p6.0;
-      machine = same _ _ _ _ p7.0;
-      kind = same _ _ _ _ p7.1;
-    }
-  where
-    same : (x y : ℕ) (k : ElfKind) (place : ℕ) → fails (not (x == y)) k place ≡ None → x ≡ y
-    same x y k place f = eqb-true x y (was_true (x == y) (not_failing (not (x == y)) k place f))
 
 pub record FrontBack (b : List ℕ) : Type 0 where
   pub small : length b ≤ 4194304
@@ -87,7 +47,7 @@ front_back b fits e =
     let p1 = both_pass c1 (c2 then_check c3 then_check c4) e in
     let p2 = both_pass c2 (c3 then_check c4) p1.1 in
     let p3 = both_pass c3 c4 p2.1 in
-    let i : Ident b = ident b p1.0 in
+    let i : Ident 20 1 b = ident 20 1 b p1.0 in
     let long : 52 ≤ length b = i.long in
     let s0 : Stands 0 (be_digits 0x7f454c46) b = subst (λ (k : ℕ). Stands 0 (be_digits k) b) i.magic (word_is b 0 fits (omega arith)) in
     let s1 : Stands 4 (1 ∷ []) b = subst (λ (k : ℕ). Stands 4 (k ∷ []) b) i.class (byte_is b 4 (omega arith)) in

@@ -22,20 +22,6 @@ use Rattle.spu_cesof.specs.Embedding.{entry_symbol}
 use Rattle.spu_cesof.specs.Unpacking.{names_in, joined, symbol_check, named_check, named_checks, names_check}
 use Rattle.spu_cesof.specs.declared.places.Places.{Places}
 
-pub null_stands : (b : List ℕ) (y : ℕ) → IsBytes b → y + 16 ≤ length b → null_check b y ≡ None → Stands y (replicate 16 0) b
-unfolding null_check
-null_stands b y fits inside e =
-    let c1 : Option ElfFault = words_check b kinds.BadSymbol y (0 ∷ 0 ∷ 0 ∷ []) in
-    let c2 : Option ElfFault = bytes_check b kinds.BadSymbol (y + 12) (0 ∷ 0 ∷ []) in
-    let c3 : Option ElfFault = half_check b kinds.BadSymbol (y + 14) 0 in
-    let p1 = both_pass c1 (c2 then_check c3) e in
-    let p2 = both_pass c2 c3 p1.1 in
-    let s1 : Stands y (replicate 12 0) b = words_stand b kinds.BadSymbol y 0 (0 ∷ 0 ∷ []) fits p1.0 in
-    let s2 : Stands (y + 12) (0 ∷ 0 ∷ []) b = bytes_stand b kinds.BadSymbol (y + 12) (0 ∷ 0 ∷ []) (omega arith) p2.0 in
-    let s3 : Stands (y + 14) (0 ∷ 0 ∷ []) b = half_there_stands b kinds.BadSymbol (y + 14) 0 fits p2.1 in
-    let s4 : Stands (y + 12) (0 ∷ 0 ∷ 0 ∷ 0 ∷ []) b = stands_join (y + 12) (y + 14) (0 ∷ 0 ∷ []) (0 ∷ 0 ∷ []) b (omega arith) s2 s3 in
-    stands_join y (y + 12) (replicate 12 0) (0 ∷ 0 ∷ 0 ∷ 0 ∷ []) b (omega arith) s1 s4
-
 -- ---- one symbol
 
 pub symbol_stands : (b : List ℕ) (y name : ℕ) (s : Symbol) → IsBytes b → y + 16 ≤ length b → symbol_check b y name s ≡ None → Stands y (entry_text name s) b
