@@ -1,4 +1,4 @@
-use Rattle.std.proofs.Common.{List, ap, sym, subst, ◌∙◌}
+use Rattle.std.proofs.Common.{List, ap, refl, sym, subst, ◌∙◌}
 use Rattle.spu_exec.specs.declared.transfers.Transfer.{Transfer}
 use Rattle.spu_exec.specs.Tags.{AllStay, has_tag}
 use Rattle.spu_ls.specs.Machine.{lands_tags}
@@ -17,7 +17,7 @@ loop-t-preserved c = record {
 
 pub returns-clause-exact : goal.returns-clause-exact
 returns-clause-exact c =
-    let none = c.in_default.ensures.none in
+    let none = c.in_default.ensures.none refl in
     ap (λ (queue : List Transfer). record (state_of c.loop-t.self) { queue = queue }) none.1
     ∙ sym (tags_done (has_tag c.args.tags) (state_of c.loop-t.self) (subst (AllStay (has_tag c.args.tags)) none.1 none.0))
     ∙ c.loop-t.invariant.rest
