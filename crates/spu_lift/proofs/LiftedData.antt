@@ -49,7 +49,8 @@ use Rattle.spu_lift.proofs.Rising.{IsExtentBefore, at_contains, contains_at, ext
 use Rattle.spu_lift.proofs.SectionNumbers.{around, at_number, count_append, count_here, count_of, kept_at, number_by, one_number, section_found}
 use Rattle.spu_lift.proofs.DataEnds.{IsSmall, end_behind, in_order, multiple_behind}
 use Rattle.spu_lift.proofs.DefinitionPlaces.{found_there, inside_defined, joined_from, kept_from, one_definition}
-use Rattle.spu_lift.proofs.OneExtent.{AreApart as AreApartIn, Lies, at_one, covered, extent_even, extent_lies, object_there, one_covered, one_extent, reloc_formed, section_valid, symbol_formed}
+use Rattle.spu_lift.proofs.OneExtent.{AreApart as AreApartIn, Lies, at_one, extent_even, extent_lies, object_there, one_covered, one_extent, reloc_formed, section_valid, symbol_formed}
+use Rattle.spu_lift.proofs.ExtentFacts.{covered}
 use Rattle.spu_lift.proofs.OneProgram.{same_number}
 use Rattle.spu_lift.proofs.LiftedCode.{IsLabelPlace, IsLiftedFrom, IsRelocOn, HasExtent, HasSection, extent_in, label_in, not_bad, reloc_is, section_by_index, section_of, target_taken}
 

@@ -1,12 +1,10 @@
 -- A symbol covers one extent, and where no functions overlap one extent holds a word.
-use Rattle.std.proofs.Common.{◌≡◌, ◌≢◌, ℕ, ◌+◌, ◌*◌, ◌/◌, ◌%◌, ◌≤◌, ◌⊎◌, true, ◌&&◌, ◌==◌, List, [], ◌∷◌, Option, Some, None, slice_get, length, refl, sym, ap, subst, ◌∙◌, inl, inr, arith, true≢false}
+use Rattle.std.proofs.Common.{◌≡◌, ◌≢◌, ℕ, ◌+◌, ◌*◌, ◌/◌, ◌%◌, ◌≤◌, ◌⊎◌, true, List, [], ◌∷◌, Option, Some, None, slice_get, length, refl, sym, ap, subst, ◌∙◌, inl, inr, arith}
 use Rattle.std.specs.Prelude.{All, ℤ, pos}
 use Rattle.std.specs.Option.{option_map_or}
-use Rattle.std.proofs.lemmas.Bool.{and_parts, eqb-true}
 use Rattle.std.proofs.lemmas.Option.{slice_get_within, get_or_from_slice_get}
 use Rattle.spu_word.specs.declared.limits.TheConstants.{WORD_SIZE}
 use Rattle.spu_word.proofs.Places.{nat_equal}
-use Rattle.spu_elf.specs.declared.objects.SymPlace.{SymPlace}
 use Rattle.spu_elf.specs.declared.objects.SymPlace.TheVariants as places
 use Rattle.spu_elf.specs.declared.objects.SecKind.TheVariants as kinds
 use Rattle.spu_elf.specs.declared.objects.Section.{Section}
@@ -18,8 +16,9 @@ use Rattle.spu_elf.specs.declared.objects.Reloc.{Reloc}
 use Rattle.spu_lift.specs.declared.fault.LiftKind.TheVariants.{FunctionOverlap, Misaligned}
 use Rattle.spu_lift.specs.declared.fault.LiftFault.TheVariants as faults
 use Rattle.spu_lift.specs.Tables.{reloc_at, section_at, sections_of, symbol_at, symbols_of}
-use Rattle.spu_lift.specs.Extents.{Extent, Holds, IsExtent, IsWordAt, covers, is_function, is_inside}
+use Rattle.spu_lift.specs.Extents.{Extent, Holds, IsExtent, IsWordAt, covers}
 use Rattle.spu_lift.specs.LiftFaults.{IsAbsent}
+use Rattle.spu_lift.proofs.ExtentFacts.{covered}
 
 some_same : {X : Type 0} (x y : X) → Some x ≡ Some y → x ≡ y
 some_same x y e = cc
@@ -29,29 +28,6 @@ pub at_one : {X : Type 0} (o : Option X) (x y : X) → o ≡ Some x → o ≡ So
 at_one o x y a b = some_same x y (sym a ∙ b)
 
 -- ---- what a symbol covers
-
-pub record IsCovered (x : Extent) (s : Symbol) : Type 0 where
-  pub function : is_function s.kind ≡ true
-  pub place : s.place ≡ places.Inside x.section
-  pub offset : s.value ≡ x.offset
-  pub size : s.size ≡ x.size
-
-inside_of : (place : SymPlace) (k : ℕ) → is_inside place k ≡ true → place ≡ places.Inside k
-inside_of (places.Inside m) k e = ap places.Inside (eqb-true m k e)
-inside_of places.Undefined k e = absurd (true≢false (sym e))
-inside_of places.Absolute k e = absurd (true≢false (sym e))
-
-pub covered : (x : Extent) (s : Symbol) → covers x s ≡ true → IsCovered x s
-covered x s e =
-    let halves = and_parts (is_function s.kind && is_inside s.place x.section) ((s.value == x.offset) && (s.size == x.size)) e in
-    let one = and_parts (is_function s.kind) (is_inside s.place x.section) halves.0 in
-    let two = and_parts (s.value == x.offset) (s.size == x.size) halves.1 in
-    record {
-      function = one.0;
-      place = inside_of s.place x.section one.1;
-      offset = eqb-true s.value x.offset two.0;
-      size = eqb-true s.size x.size two.1;
-    }
 
 -- two extents with the same numbers are one
 pub extents_same : (x y : Extent) → x.object ≡ y.object → x.section ≡ y.section → x.offset ≡ y.offset → x.size ≡ y.size → x ≡ y
@@ -84,7 +60,7 @@ pub one_covered : (x y : Extent) (s : Symbol) → x.object ≡ y.object → cove
 one_covered x y s object one two =
     let a = covered x s one in
     let b = covered y s two in
-    extents_same x y object (inside_same x.section y.section (sym a.place ∙ b.place)) (sym a.offset ∙ b.offset) (sym a.size ∙ b.size)
+    extents_same x y object (inside_same x.section y.section (sym a.place ∙ b.place)) (sym a.value ∙ b.value) (sym a.size ∙ b.size)
 
 -- ---- what is well formed
 
@@ -133,7 +109,7 @@ extent_lies os x formed (j, s, t, is) =
     let its = symbol_formed os x.object j s formed is.symbol in
     let placed : EndsIn (sections_of os x.object) s x.section = its.inside x.section a.place in
     let same : placed.0 ≡ t = at_one (section_at os x.object x.section) placed.0 t placed.1 is.section in
-    let value = a.offset in
+    let value = a.value in
     let size = a.size in
     let ends : s.value + s.size ≤ t.size = subst (λ (u : Section). s.value + s.size ≤ u.size) same placed.2 in
     record { section = t; there = is.section; code = is.code; some = is.some; ends = omega arith; valid = section_valid os x.object x.section t formed is.section }

@@ -41,7 +41,8 @@ use Rattle.spu_lift.specs.LiftFaults.{IsAbsent, Lifted}
 use Rattle.spu_lift.proofs.Rising.{IsExtentBefore, at_contains, contains_at, extents_ascend, extents_order, map_ascends, one_index, order_by, same_elements, same_numbers}
 use Rattle.spu_lift.proofs.SectionNumbers.{numbered_at}
 use Rattle.spu_lift.proofs.DefinitionPlaces.{inside_defined, one_definition}
-use Rattle.spu_lift.proofs.OneExtent.{AreApart, at_one, covered, one_covered, one_word}
+use Rattle.spu_lift.proofs.OneExtent.{AreApart, at_one, one_covered, one_word}
+use Rattle.spu_lift.proofs.ExtentFacts.{covered}
 
 -- ---- lists
 
