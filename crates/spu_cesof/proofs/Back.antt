@@ -1,7 +1,7 @@
 -- An object with no fault is the embedding of what it is read as.
-use Rattle.std.proofs.Common.{◌≡◌, ℕ, zero, suc, ◌+◌, ◌-◌, ◌*◌, ◌/◌, ◌<◌, ◌≤◌, Bool, true, false, not, List, [], ◌∷◌, ◌++◌, length, take, drop, map, replicate, slice_index, Option, None, nat_lt, if◌then◌else◌, ◌==◌, refl, sym, ap, subst, ◌∙◌, append-nil, ne_eqb, arith}
+use Rattle.std.proofs.Common.{◌≡◌, ℕ, zero, suc, ◌+◌, ◌-◌, ◌*◌, ◌/◌, ◌<◌, ◌≤◌, Bool, true, false, not, List, [], ◌∷◌, ◌++◌, length, take, drop, map, replicate, slice_index, Option, None, if◌then◌else◌, ◌==◌, refl, sym, ap, subst, ◌∙◌, append-nil, ne_eqb, arith}
 use Rattle.std.specs.List.{flat_map, All}
-use Rattle.std.proofs.lemmas.Bool.{ltb-false, eqb-true}
+use Rattle.std.proofs.lemmas.Bool.{eqb-true}
 use Rattle.std.proofs.lemmas.List.{length-append, length-take, length-drop, length-map}
 use Rattle.std.proofs.lemmas.List.Elements.{All-cons, All-head, All-tail}
 use Rattle.spu_word.specs.Bytes.{be_digits, be_half_digits, be_number, be_half_number}

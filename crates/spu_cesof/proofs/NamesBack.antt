@@ -1,5 +1,5 @@
 -- What passes the checks of symbols and names is the symbol table of the names that are read.
-use Rattle.std.proofs.Common.{◌≡◌, ℕ, zero, suc, ◌+◌, ◌*◌, ◌<◌, ◌≤◌, Bool, true, false, not, ◌&&◌, List, [], ◌∷◌, ◌++◌, length, take, drop, map, replicate, get_or, Option, None, nat_lt, nat_le, ◌==◌, refl, sym, ap, subst, ◌∙◌, append_assoc, cond, ne_eqb, arith}
+use Rattle.std.proofs.Common.{◌≡◌, ℕ, zero, suc, ◌+◌, ◌*◌, ◌<◌, ◌≤◌, Bool, true, false, not, ◌&&◌, List, [], ◌∷◌, ◌++◌, length, take, drop, map, get_or, Option, None, nat_lt, nat_le, ◌==◌, refl, sym, ap, subst, ◌∙◌, append_assoc, cond, ne_eqb, arith}
 use Rattle.std.specs.List.{flat_map, All, prefix_len}
 use Rattle.std.proofs.lemmas.Bool.{ltb-false}
 use Rattle.std.proofs.lemmas.Bool.Decides.{nat_tests}
@@ -10,7 +10,7 @@ use Rattle.spu_word.specs.Bytes.{be_digits, be_half_digits}
 use Rattle.spu_word.proofs.Stands.{Stands}
 use Rattle.spu_elf.specs.Checks.{fails, ◌then_check◌, words_check, bytes_check, half_check}
 use Rattle.spu_elf.specs.Rows.{ended, symbol_info, place_number}
-use Rattle.spu_elf.specs.Executables.{null_check, name_len, after_name, valid_len, name_check}
+use Rattle.spu_elf.specs.Executables.{name_len, after_name, valid_len, name_check}
 use Rattle.spu_elf.specs.declared.faults.ElfKind.TheVariants as kinds
 use Rattle.spu_elf.specs.declared.faults.ElfFault.{ElfFault}
 use Rattle.spu_elf.specs.declared.objects.Symbol.{Symbol}

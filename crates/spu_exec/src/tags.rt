@@ -1,6 +1,6 @@
 //! The tags of transfers that wait: which land where their status is read, and the status.
 
-ghost use Rattle.std.specs.Prelude.{◌≡◌, ◌<◌, ◌≤◌, ◌+◌, ◌^◌, ℕ, List, length, vec_capacity, IfSome, IsNone};
+ghost use Rattle.std.specs.Prelude.{◌≡◌, ◌<◌, ◌≤◌, ◌+◌, ◌^◌, ℕ, vec_capacity, IfSome, IsNone};
 ghost use Rattle.std.specs.Int.{sum_through};
 ghost use Rattle.spu_exec.specs.Tags.{
   AllStay,

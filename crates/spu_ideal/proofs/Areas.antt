@@ -1,6 +1,6 @@
 -- What a transfer that can be carried out is like.
 use Rattle.std.proofs.Common.{◌≡◌, ℕ, zero, suc, ◌≤◌, ◌⊎◌, List, refl, arith, inl, inr, Bool, true, false}
-use Rattle.std.specs.Prelude.{◌&&◌, ◌||◌}
+use Rattle.std.specs.Prelude.{◌||◌}
 use Rattle.std.proofs.lemmas.Bool.{and_parts}
 use Rattle.spu_word.specs.declared.load.Area.{Area}
 use Rattle.spu_exec.specs.declared.transfers.Transfer.{Transfer}

@@ -33,7 +33,6 @@ use Rattle.spu_exec.specs.Entries.{Entry, quad_for}
 use Rattle.spu_exec.specs.declared.transfers.Form.{Form}
 use Rattle.spu_exec.specs.declared.transfers.Form.TheVariants.{Put, Get}
 use Rattle.spu_exec.specs.declared.transfers.Transfer.{Transfer}
-use Rattle.spu_exec.specs.Areas.{written}
 use Rattle.spu_exec.specs.Landing as landing
 use Rattle.spu_ideal.specs.Landing.{Contents, land, land_by, placed}
 use Rattle.spu_ideal.specs.Machine.{with_entries, leaves, labelled, data_byte}

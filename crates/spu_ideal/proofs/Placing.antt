@@ -1,5 +1,5 @@
 -- Numbers that are placed in a store byte by byte, and numbers of a store that are read.
-use Rattle.std.proofs.Common.{◌≡◌, ◌≢◌, ℕ, zero, suc, ◌+◌, ◌-◌, ◌<◌, ◌≤◌, List, [], ◌∷◌, ◌++◌, length, get_or, take, drop, Some, None, Option, Bool, true, false, not, refl, sym, ap, ap₂, ◌∙◌, arith, append_assoc, length-append, length-take, drop-cons, add-one}
+use Rattle.std.proofs.Common.{◌≡◌, ◌≢◌, ℕ, zero, suc, ◌+◌, ◌-◌, ◌<◌, ◌≤◌, List, [], ◌∷◌, ◌++◌, length, get_or, take, drop, Bool, true, false, not, refl, sym, ap, ap₂, ◌∙◌, arith, drop-cons, add-one}
 use Rattle.std.specs.Prelude.{◌==◌, ◌&&◌, ◌||◌, if◌then◌else◌, nat_le, nat_lt, slice_index}
 use Rattle.std.proofs.Math.Path.{fun_ext}
 use Rattle.std.proofs.lemmas.Bool.{cond_both}
@@ -8,7 +8,7 @@ use Rattle.std.proofs.lemmas.List.{get_or_default, get_or-take, take_all, take_m
 use Rattle.spu_word.specs.declared.load.Area.{Area}
 use Rattle.spu_exec.specs.declared.transfers.Transfer.{Transfer}
 use Rattle.spu_lift.specs.declared.symbolic.SymByte.{SymByte}
-use Rattle.spu_lift.specs.declared.symbolic.SymByte.TheVariants.{Num, Part, Unknown}
+use Rattle.spu_lift.specs.declared.symbolic.SymByte.TheVariants.{Num}
 use Rattle.spu_ideal.specs.Bytes.{is_number, number_of}
 use Rattle.spu_ideal.specs.Landing.{numbers_from, placed}
 use Rattle.spu_ideal.specs.Fills.{all_land, is_readable, lands_well, some_fills}

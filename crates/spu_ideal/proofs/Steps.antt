@@ -30,7 +30,6 @@ use Rattle.spu_word.specs.declared.limits.TheConstants.{OUTBOX_SIZE}
 use Rattle.spu_exec.specs.declared.channels.TheConstants.{MFC_CMD, MFC_RD_TAG_MASK, MFC_RD_TAG_STAT, MFC_WR_TAG_MASK, MFC_WR_TAG_UPDATE, SPU_RD_IN_MBOX, SPU_WR_OUT_MBOX}
 use Rattle.spu_exec.specs.Channels.{is_written, is_counted, is_update}
 use Rattle.spu_exec.specs.declared.transfers.Form.{Form}
-use Rattle.spu_exec.specs.declared.transfers.Transfer.{Transfer}
 use Rattle.spu_exec.specs.Transfers.{form_of}
 use Rattle.spu_exec.specs.Tags.{with_tags, is_landing, status}
 use Rattle.spu_ideal.specs.Tested.{can_test, can_halt, symbolic_taken, symbolic_holds}

@@ -20,7 +20,6 @@ use Rattle.spu_exec.specs.declared.transfers.Form.TheVariants.{Put, Get}
 use Rattle.spu_exec.specs.declared.transfers.Transfer.{Transfer}
 use Rattle.spu_exec.specs.Tags.{waits, with_tags, without_tags, is_landing}
 use Rattle.spu_exec.specs.Transfers.{is_taken, form_of}
-use Rattle.spu_exec.specs.Areas.{written}
 use Rattle.spu_lift.specs.declared.program.Operand.{Operand}
 use Rattle.spu_lift.specs.declared.program.Operand.TheVariants as operand
 use Rattle.spu_lift.specs.declared.program.SymInst.{SymInst}

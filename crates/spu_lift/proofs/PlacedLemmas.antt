@@ -1,7 +1,7 @@
 -- Multiples, and the sections of objects one after another.
-use Rattle.std.proofs.Common.{◌≡◌, ℕ, zero, suc, ◌+◌, ◌-◌, ◌*◌, ◌/◌, ◌%◌, ◌^◌, ◌<◌, ◌≤◌, max, Bool, true, false, cond, ◌&&◌, not, nat_lt, List, [], ◌∷◌, ◌++◌, length, get_or, take, drop, Option, Some, None, slice_get, refl, sym, ap, ◌∙◌, subst, inl, inr, arith, append_assoc, length-append, append-nil}
-use Rattle.std.specs.Prelude.{fold, filter, if◌then◌else◌, All}
-use Rattle.std.specs.List.{AllByRecursion, flat_map}
+use Rattle.std.proofs.Common.{◌≡◌, ℕ, zero, suc, ◌+◌, ◌-◌, ◌*◌, ◌/◌, ◌%◌, ◌^◌, ◌<◌, ◌≤◌, max, not, List, [], ◌∷◌, ◌++◌, length, get_or, take, Option, Some, None, slice_get, refl, sym, ap, ◌∙◌, subst, inl, inr, arith, append_assoc, length-append, append-nil}
+use Rattle.std.specs.Prelude.{fold, filter, All}
+use Rattle.std.specs.List.{AllByRecursion}
 use Rattle.std.specs.Option.{option_and_then, option_map, option_map_or}
 use Rattle.std.proofs.Math.Nat.{div-mul-le_self}
 use Rattle.std.proofs.lemmas.Nat.{div-mul-add}
@@ -9,8 +9,6 @@ use Rattle.std.proofs.lemmas.Bool.{cond_both, cases_Bool}
 use Rattle.std.proofs.lemmas.List.{take_more, length-take-le, take_all}
 use Rattle.std.proofs.lemmas.List.Sums.{fold_push, fold-append}
 use Rattle.std.proofs.lemmas.List.Elements.{recursion_from_All, All-take}
-use Rattle.std.proofs.lemmas.Grind.{flat_map-append}
-use Rattle.std.proofs.lemmas.Option.{slice_get_within}
 use Rattle.spu_word.specs.declared.limits.TheConstants.{DATA_START, MAX_OBJECTS, MAX_SECTIONS, QUAD_SIZE}
 use Rattle.spu_elf.specs.Validity.{IsWellFormedSection}
 use Rattle.spu_elf.specs.WellFormed.{IsWellFormed}
@@ -18,9 +16,9 @@ use Rattle.spu_elf.specs.declared.objects.Section.{Section}
 use Rattle.spu_elf.specs.declared.objects.Object.{Object}
 use Rattle.spu_lift.specs.declared.sections.Placing.{Placing}
 use Rattle.spu_lift.specs.declared.sections.Sections.{Sections}
-use Rattle.spu_lift.specs.Tables.{all_sections, data_address, end_of, holds_code, holds_data, placed_from, section_at, sections_before, sections_of}
+use Rattle.spu_lift.specs.Tables.{all_sections, end_of, holds_code, holds_data, placed_from, sections_before, sections_of}
 use Rattle.spu_word.specs.Multiples.{multiple_from}
-use Rattle.spu_lift.specs.Placed.{ArePlaced, ArePlacedFrom, HasRoom, all_placings, count_after, end_after, placing_at, placing_from, placing_of, placings_from}
+use Rattle.spu_lift.specs.Placed.{ArePlaced, ArePlacedFrom, HasRoom, all_placings, count_after, end_after, placing_from, placing_of, placings_from}
 
 exact : (q m r : ℕ) → r < m → 0 < r → (q * m + r + (m - 1)) / m ≡ q + 1
 exact q m r less some =

@@ -1,5 +1,5 @@
 -- Memory that transfers write to stays sound, and transfers that could be carried out still can.
-use Rattle.std.proofs.Common.{◌≡◌, ℕ, zero, suc, ◌+◌, ◌-◌, ◌<◌, ◌≤◌, List, [], ◌∷◌, ◌++◌, length, take, drop, map, get_or, refl, ap, ◌∙◌, arith, true, Option, Some, None}
+use Rattle.std.proofs.Common.{◌≡◌, ℕ, zero, suc, ◌+◌, ◌-◌, ◌<◌, List, [], ◌∷◌, ◌++◌, length, take, drop, map, get_or, refl, ap, ◌∙◌, arith, true, Option, Some, None}
 use Rattle.std.specs.Prelude.{⊤, ◌&&◌, not, nat_le, nat_lt, slice_index, slice_index_or}
 use Rattle.std.specs.List.{All, list_any, position_or_len}
 use Rattle.std.proofs.Math.ListN.{set}

@@ -1,5 +1,5 @@
 -- What a misfit says of its place, and what stands where there is none.
-use Rattle.std.proofs.Common.{◌≡◌, ℕ, zero, suc, ◌+◌, ◌%◌, ◌^◌, ◌<◌, ◌≤◌, ◌⊎◌, inl, inr, Bool, true, false, List, [], ◌∷◌, ◌++◌, Option, Some, None, length, get_or, refl, sym, ap, subst, ◌∙◌, arith, length-append, cond}
+use Rattle.std.proofs.Common.{◌≡◌, ℕ, zero, suc, ◌+◌, ◌%◌, ◌^◌, ◌<◌, ◌≤◌, ◌⊎◌, inl, inr, Bool, true, false, List, [], ◌∷◌, Option, Some, None, length, get_or, refl, sym, ap, subst, ◌∙◌, arith, cond}
 use Rattle.std.specs.Prelude.{nat_lt, nat_le, ◌==◌, not, ◌&&◌, ◌||◌, take, codes, if◌then◌else◌, option_map, slice_get, IfSome}
 use Rattle.std.specs.List.{All, list_all, position}
 use Rattle.std.specs.Str.{bytes_eq}
@@ -17,7 +17,6 @@ use Rattle.spu_elf.specs.declared.objects.Symbol.{Symbol}
 use Rattle.spu_elf.specs.declared.objects.SymKind.TheVariants as kinds
 use Rattle.spu_elf.specs.declared.objects.SymPlace.TheVariants as places
 use Rattle.spu_elf.specs.declared.executables.Exec.{Exec}
-use Rattle.spu_exec.specs.Transfers.{Stretch}
 use Rattle.spu_elf.specs.declared.entries.TheConstants.{ENTRY_PREFIX_SIZE}
 use Rattle.spu_elf.specs.Entries.{is_object, is_entry, area_name}
 use Rattle.spu_ls.specs.Entries.{image_place}

@@ -1,5 +1,5 @@
 -- The start of an executable is a blank machine with its load segment placed and its quadwords filled in.
-use Rattle.std.proofs.Common.{◌≡◌, ℕ, ◌+◌, ◌/◌, ◌%◌, ◌^◌, ◌<◌, List, [], ◌∷◌, ◌++◌, Some, None, true, false, Bool, length, get_or, drop, refl, sym, ap, ◌∙◌, arith, suc, drop-cons, add-one}
+use Rattle.std.proofs.Common.{◌≡◌, ℕ, ◌+◌, ◌<◌, List, [], ◌∷◌, Some, None, true, false, Bool, length, get_or, drop, refl, sym, ap, ◌∙◌, arith, suc, drop-cons, add-one}
 use Rattle.std.proofs.Math.Path.{fun_ext}
 use Rattle.std.proofs.lemmas.Bool.Decides.{nat_tests}
 use Rattle.std.specs.Prelude.{slice_get, if◌then◌else◌, Option, filter, map}

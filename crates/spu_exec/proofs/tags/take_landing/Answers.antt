@@ -1,4 +1,4 @@
-use Rattle.std.proofs.Common.{ap, sym, ◌∙◌, vec_len, arith}
+use Rattle.std.proofs.Common.{ap, sym, ◌∙◌, arith}
 use Rattle.spu_exec.specs.Tags.{has_tag}
 use Rattle.spu_exec.proofs.Queues.{taken}
 use Rattle.spu_exec.proofs.tags.take_landing.Goals as goal
