@@ -121,8 +121,8 @@ module _ (p : Prog) (limit : ℕ) (l : Layout) (laid : IsLaid p limit l) (image 
 
   one_safe : (form : Form) (t : Transfer) (c : Contents) → AreAsSafe p limit c.areas (land_by form t c).areas
   unfolding AreAsSafe
-  one_safe Put t c u h = record { taken = same_taken no_image t.ea (numbers_from c.store t.local t.size) c.areas u h.taken; reached = h.reached }
-  one_safe Get t c u h = h
+  one_safe Put t c = λ u h. record { taken = same_taken no_image t.ea (numbers_from c.store t.local t.size) c.areas u h.taken; reached = h.reached }
+  one_safe Get t c = λ u h. h
 
   pub still_safe : (areas others : List Area) (ts : List Transfer) → AreAsSafe p limit areas others → AllByRecursion (IsSafe p limit areas) ts → AllByRecursion (IsSafe p limit others) ts
   unfolding AreAsSafe
