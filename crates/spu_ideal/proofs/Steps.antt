@@ -31,7 +31,7 @@ use Rattle.spu_exec.specs.declared.channels.TheConstants.{MFC_CMD, MFC_RD_TAG_MA
 use Rattle.spu_exec.specs.Channels.{is_written, is_counted, is_update}
 use Rattle.spu_exec.specs.declared.transfers.Form.{Form}
 use Rattle.spu_exec.specs.Transfers.{form_of}
-use Rattle.spu_exec.specs.Tags.{with_tags, is_landing, status}
+use Rattle.spu_exec.specs.Tags.{with_tags, without_tags, is_landing, status}
 use Rattle.spu_ideal.specs.Tested.{can_test, can_halt, symbolic_taken, symbolic_holds}
 use Rattle.spu_ideal.specs.Landing.{can_land}
 use Rattle.spu_ideal.specs.Channels.{contents_of, lands_tags, knows_transfer, transfer_by, is_free, waits_last, is_within, writes_word, writes_known, takes, answers_by, answers, reads, unless_last, counts_by, uses_channel}
