@@ -8,7 +8,7 @@ ghost use Rattle.spu_lift.specs.declared.fault.LiftKind.TheVariants as kinds;
 ghost use Rattle.spu_lift.specs.WellFormed.{IsWellFormed as IsWellFormedProgram};
 ghost use Rattle.spu_lift.specs.LiftFaults.{IsAbsent, IsRefused, Lifted, Shows};
 ghost use Rattle.spu_lift.specs.FunctionTables.{HasPlaces, IsLifting};
-ghost use Rattle.spu_lift.specs.Checks.{AreAbsentFrom, IsEntryAt, IsLeastFrom, IsNowhere};
+ghost use Rattle.spu_lift.specs.Checks.{AreAbsentFrom, AreWordsSound, IsEntryAt, IsLeastFrom, IsNowhere};
 
 use crate::alignment_checks::check_alignment;
 use crate::fault::LiftFault;
@@ -41,6 +41,33 @@ impl Lifting<'_> {
 
     /// Fails at the first fault of words of functions and of relocations, by its number and then its place.
     fn check_code(&self, alloc: Global) -> Result<(), LiftFault>
+        requires lifting { IsLifting self.now }
+        requires places { HasPlaces self.now.functions.sorted.items }
+        requires aligned { IsNowhere (Shows kinds.Misaligned self.now.tables.objects.now ([])) }
+        ensures ok { OnOk result (AreAbsentFrom 8 self.now.tables.objects.now ([])) }
+        ensures err { IfErr result (IsLeastFrom 8 self.now.tables.objects.now ([])) }
+    {
+        if self.are_sound_words() {
+            self.check_among_sound(alloc)
+        } else {
+            self.check_each(alloc)
+        }
+    }
+
+    /// Fails at the first fault of relocations, by its number and then its place, where no word of a function has a fault.
+    fn check_among_sound(&self, alloc: Global) -> Result<(), LiftFault>
+        requires lifting { IsLifting self.now }
+        requires places { HasPlaces self.now.functions.sorted.items }
+        requires sound { AreWordsSound self.now.tables.objects.now }
+        ensures ok { OnOk result (AreAbsentFrom 8 self.now.tables.objects.now ([])) }
+        ensures err { IfErr result (IsLeastFrom 8 self.now.tables.objects.now ([])) }
+    {
+        self.check_fits(alloc)?;
+        self.check_addends(alloc)
+    }
+
+    /// Fails at the first fault of words of functions and of relocations, by a pass for each of them.
+    fn check_each(&self, alloc: Global) -> Result<(), LiftFault>
         requires lifting { IsLifting self.now }
         requires places { HasPlaces self.now.functions.sorted.items }
         requires aligned { IsNowhere (Shows kinds.Misaligned self.now.tables.objects.now ([])) }

@@ -180,7 +180,7 @@ impl Lifting<'_> {
         requires sound { IsSoundReloc self.now.tables.objects.now object index r.now }
         ensures { IsTrue result ↔ IsShownBy check self.now.tables.objects.now object index r.now }
     {
-        !self.tables.is_on_hint(spot_of(object, r)) && self.has_fault(check, object, index, r)
+        self.has_fault(check, object, index, r) && !self.tables.is_on_hint(spot_of(object, r))
     }
 
     /// Whether a relocation has a fault, if it is not on a hint.

@@ -11,7 +11,7 @@ ghost use Rattle.spu_lift.specs.Extents.{Extent};
 ghost use Rattle.spu_lift.specs.LiftFaults.{Shows};
 ghost use Rattle.spu_lift.specs.Meanings.{field_of};
 ghost use Rattle.spu_lift.specs.FunctionTables.{HasPlaces, IsLifting, extent_in};
-ghost use Rattle.spu_lift.specs.Checks.{HasNoWord, IsAnswer, IsFaultyInstruction, IsFaultyWord, IsFirstWord, IsFunctionOf, IsNowhere, IsNumberOf, IsWordIn, ShowsWord, kind_of_word};
+ghost use Rattle.spu_lift.specs.Checks.{AreWordsSound, HasNoWord, IsAnswer, IsFaultyInstruction, IsFaultyWord, IsFirstWord, IsFunctionOf, IsNowhere, IsNumberOf, IsWordIn, ShowsWord, kind_of_word};
 
 use crate::fault::{LiftFault, LiftKind};
 use crate::functions::FunctionSymbol;
@@ -85,6 +85,66 @@ impl Lifting<'_> {
             Some(x) => self.shows_instruction(check, function, spot, &x),
             None => matches!(check, WordCheck::Unknown),
         }
+    }
+
+    /// Whether an instruction of a function has none of the faults.
+    fn is_sound_instruction(&self, function: u32, spot: Spot, x: &Inst) -> bool
+        requires lifting { IsLifting self.now }
+        requires places { HasPlaces self.now.functions.sorted.items }
+        ensures { let os = self.now.tables.objects.now in
+            IsTrue result → (check : WordCheck) (e : Extent) → IsFunctionOf self.now.functions.sorted.items function e
+            → IsFaultyInstruction check os e x.now (field_of os spot.object spot.section spot.offset x.now) → ⊥ }
+    {
+        !self.shows_instruction(WordCheck::BadTarget, function, spot, x)
+            && !self.shows_instruction(WordCheck::LinkRegister, function, spot, x)
+            && !self.shows_instruction(WordCheck::ReadsCode, function, spot, x)
+    }
+
+    /// Whether a word of a function has none of the faults.
+    fn is_sound_word(&self, function: u32, spot: Spot) -> bool
+        requires lifting { IsLifting self.now }
+        requires places { HasPlaces self.now.functions.sorted.items }
+        ensures { let os = self.now.tables.objects.now in
+            IsTrue result → (check : WordCheck) (e : Extent) (t : Section) → IsWordIn os self.now.functions.sorted.items function spot e t
+            → IsFaultyWord check os e spot.offset (be_number t.bytes spot.offset) → ⊥ }
+    {
+        match self.tables.instruction(spot) {
+            Some(x) => self.is_sound_instruction(function, spot, &x),
+            None => false,
+        }
+    }
+
+    /// Whether no word of a function has any of the faults.
+    fn is_sound_function(&self, function: u32, f: &FunctionSymbol) -> bool
+        requires lifting { IsLifting self.now }
+        requires places { HasPlaces self.now.functions.sorted.items }
+        requires aligned { IsNowhere (Shows kinds.Misaligned self.now.tables.objects.now ([])) }
+        requires number { IsNumberOf self.now.functions.sorted.items function f.now }
+        ensures { let os = self.now.tables.objects.now in
+            IsTrue result → (check : WordCheck) (t : Section) → section_at os f.now.object f.now.section ≡ Some t
+            → HasNoWord check os (extent_in f.now) t }
+    {
+        for word in 0..f.word_count() {
+            if !self.is_sound_word(function, f.spot(word)) {
+                return false;
+            }
+        }
+        true
+    }
+
+    /// Whether no word of any function has any of the faults. It goes over the words once, and doesn't tell which of them has which.
+    pub fn are_sound_words(&self) -> bool
+        requires lifting { IsLifting self.now }
+        requires places { HasPlaces self.now.functions.sorted.items }
+        requires aligned { IsNowhere (Shows kinds.Misaligned self.now.tables.objects.now ([])) }
+        ensures { IsTrue result → AreWordsSound self.now.tables.objects.now }
+    {
+        for (index, f) in self.functions.as_slice().iter().enumerate() {
+            if !self.is_sound_function(index as u32 + 1, f) {
+                return false;
+            }
+        }
+        true
     }
 
     /// The first word of a function that has a fault, as its index.
