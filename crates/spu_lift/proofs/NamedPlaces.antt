@@ -1,12 +1,16 @@
 -- The place whose address the operand of a lifted word is.
-use Rattle.std.proofs.Common.{◌≡◌, ℕ, zero, suc, ◌⊎◌, Bool, true, false, ◌==◌, cond, List, Option, Some, None, IfSome, IfNone, refl, sym, ap, subst, ◌∙◌, inl, inr}
-use Rattle.std.proofs.lemmas.Bool.{cases_Bool}
+use Rattle.std.proofs.Common.{◌≡◌, ℕ, zero, suc, ◌⊎◌, Bool, true, false, ◌==◌, cond, List, if◌then◌else◌, Option, Some, None, IfSome, IfNone, refl, sym, ap, subst, ◌∙◌, inl, inr, pos, ◌+ℤ◌, ◌*ℤ◌}
+use Rattle.std.proofs.lemmas.Bool.{and_parts, cases_Bool, false≢true}
 use Rattle.std.proofs.lemmas.Option.{none-some, same_Some}
 use Rattle.spu_isa.specs.declared.instruction.Inst.{Inst}
 use Rattle.spu_isa.specs.declared.operation.Kind.{Kind}
 use Rattle.spu_isa.specs.declared.operation.Kind.TheVariants as kind
 use Rattle.spu_isa.specs.Table.{row_of}
+use Rattle.spu_word.specs.declared.limits.TheConstants.{WORD_SIZE}
 use Rattle.spu_elf.specs.declared.objects.Object.{Object}
+use Rattle.spu_elf.specs.declared.objects.Reloc.{Reloc}
+use Rattle.spu_reloc.specs.declared.field.RelocKind.TheVariants.{Rel16}
+use Rattle.spu_reloc.specs.Fields.{fits_on}
 use Rattle.spu_lift.specs.declared.relocations.Spot.{Spot}
 use Rattle.spu_lift.specs.declared.functions.FunctionSymbol.{FunctionSymbol}
 use Rattle.spu_lift.specs.declared.functions.Place.{Place}
@@ -17,8 +21,10 @@ use Rattle.spu_lift.specs.declared.program.Operand.TheVariants as operand
 use Rattle.spu_lift.specs.declared.program.SymInst.{SymInst}
 use Rattle.spu_lift.specs.declared.tables.Meaning.{Meaning}
 use Rattle.spu_lift.specs.declared.tables.Meaning.TheVariants.{Number, Code, Unknown}
+use Rattle.spu_lift.specs.WellFormed.{is_direct}
+use Rattle.spu_lift.specs.Tables.{reloc_on}
 use Rattle.spu_lift.specs.Extents.{label_of}
-use Rattle.spu_lift.specs.Meanings.{field_of, is_hint}
+use Rattle.spu_lift.specs.Meanings.{field_by, field_of, is_hint, is_relative}
 use Rattle.spu_lift.specs.Lifted.{operand_to, with_operand}
 use Rattle.spu_lift.specs.FunctionTables.{HasPlaces, IsLiftedBy, IsLiftedIn, IsOperandIn}
 use Rattle.spu_lift.specs.TakenPlaces.{NamesPlace, place_named, place_of}
@@ -93,3 +99,40 @@ no_place_named os fs f q s None places lifted is = λ p named.
     let names : s.operand ≡ operand.Address (label_of p.function p.word) = ap (λ (y : SymInst). y.operand) (sym same) ∙ named.names in
     none-some (record { function = p.function; word = p.word }) (is ∙ ap place_named names ∙ label_there p.function p.word)
 no_place_named os fs f q s (Some r) places lifted is = tt
+
+-- ---- words without a relocation
+
+-- what a direct branch or call goes to is no address
+no_address : (what : Kind) (f g j : ℕ) (l : Label) → is_direct what ≡ true → operand_to what f g j ≡ operand.Address l → ⊥
+no_address kind.Call f g j l direct e = absurd (cc)
+no_address kind.Branch f g j l direct e = elim (cases_Bool (g == f)) [
+  | inl same ↦ let bad : operand.Branch j ≡ operand.Address l = sym (ap (λ b. cond b (operand.Branch j) (operand.Jump g)) same) ∙ e in absurd (cc)
+  | inr other ↦ let bad : operand.Jump g ≡ operand.Address l = sym (ap (λ b. cond b (operand.Branch j) (operand.Jump g)) other) ∙ e in absurd (cc)
+]
+no_address kind.Compute f g j l direct e = absurd (false≢true direct)
+no_address kind.Load f g j l direct e = absurd (false≢true direct)
+no_address kind.Store f g j l direct e = absurd (false≢true direct)
+no_address kind.Indirect f g j l direct e = absurd (false≢true direct)
+no_address kind.PointerCall f g j l direct e = absurd (false≢true direct)
+no_address kind.HaltTest f g j l direct e = absurd (false≢true direct)
+no_address kind.ChannelOp f g j l direct e = absurd (false≢true direct)
+no_address kind.StopOp f g j l direct e = absurd (false≢true direct)
+no_address kind.Nothing f g j l direct e = absurd (false≢true direct)
+
+-- a field without a relocation is that of a direct branch or call, or stands for itself
+no_field_address : (os : List Object) (fs : List FunctionSymbol) (f : ℕ) (q : Spot) (x : Inst) (b : Bool) (o : Operand) (l : Label) → is_relative x.op ≡ b
+    → IsOperandIn fs f (row_of x.op).kind (if b then Some (Code q.object q.section (pos q.offset +ℤ (pos WORD_SIZE *ℤ x.imm))) else None) o → o ≡ operand.Address l → ⊥
+no_field_address os fs f q x true o l relative stands is =
+    no_address (row_of x.op).kind f stands.p.function stands.p.word l ((and_parts (is_direct (row_of x.op).kind) (fits_on Rel16 x.op) relative).0) (sym stands.is ∙ is)
+no_field_address os fs f q x false o l relative stands is = let bad : operand.Plain ≡ operand.Address l = sym stands ∙ is in absurd (cc)
+
+unrelocated : (os : List Object) (fs : List FunctionSymbol) (f : ℕ) (q : Spot) (x : Inst) (s : SymInst) (b : Bool) (l : Label) → reloc_on os q.object q.section q.offset ≡ None → IsLiftedBy b os fs f q x s → s.operand ≡ operand.Address l → ⊥
+unrelocated os fs f q x s true l none lifted is = let plain : operand.Plain ≡ operand.Address l = sym (ap (λ (y : SymInst). y.operand) lifted) ∙ is in absurd (cc)
+unrelocated os fs f q x s false l none lifted is =
+    no_field_address os fs f q x (is_relative x.op) lifted.0 l refl
+    (subst (λ (r : Option Reloc). IsOperandIn fs f (row_of x.op).kind (field_by os q.object q.section q.offset x r) lifted.0) none lifted.1)
+    (sym (ap (λ (y : SymInst). y.operand) lifted.2 ∙ with_its x lifted.0) ∙ is)
+
+-- a word without a relocation takes no address
+pub no_place_unrelocated : (os : List Object) (fs : List FunctionSymbol) (f : ℕ) (q : Spot) (p : Place) → reloc_on os q.object q.section q.offset ≡ None → NamesPlace os fs f q p → ⊥
+no_place_unrelocated os fs f q p none named = unrelocated os fs f q named.lifted.x named.x (is_hint named.lifted.x.op) (label_of p.function p.word) none named.lifted.lifted named.names
