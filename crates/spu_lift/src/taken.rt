@@ -175,6 +175,19 @@ fn place_named(operand: Operand) -> Option<Place>
 }
 
 impl Lifting<'_> {
+    /// The place whose address the lifted instruction of a function takes.
+    fn address_lifted(&self, function: u32, spot: Spot) -> Option<Place>
+        requires tables { AreTables self.now.tables }
+        requires places { HasPlaces self.now.functions.sorted.items }
+        ensures some { IfSome result (NamesPlace self.now.tables.objects.now self.now.functions.sorted.items function spot) }
+        ensures none { IfNone result ((p : Place) → NamesPlace self.now.tables.objects.now self.now.functions.sorted.items function spot p → ⊥) }
+    {
+        match self.lifted(function, spot) {
+            Some(x) => place_named(x.operand),
+            None => None,
+        }
+    }
+
     /// The place whose address an instruction of a function takes: none without a relocation, whose instruction isn't even decoded.
     fn address_in(&self, function: u32, spot: Spot) -> Option<Place>
         requires tables { AreTables self.now.tables }
@@ -182,11 +195,8 @@ impl Lifting<'_> {
         ensures some { IfSome result (NamesPlace self.now.tables.objects.now self.now.functions.sorted.items function spot) }
         ensures none { IfNone result ((p : Place) → NamesPlace self.now.tables.objects.now self.now.functions.sorted.items function spot p → ⊥) }
     {
-        if self.tables.relocation(spot).is_none() {
-            return None;
-        }
-        match self.lifted(function, spot) {
-            Some(x) => place_named(x.operand),
+        match self.tables.relocation(spot) {
+            Some(_) => self.address_lifted(function, spot),
             None => None,
         }
     }

@@ -1,13 +1,10 @@
-use Rattle.spu_lift.proofs.NamedPlaces.{named_place, no_place_named}
+use Rattle.std.proofs.Common.{◌≡◌, None, rules}
+use Rattle.spu_lift.specs.Tables.{reloc_on}
+use Rattle.spu_lift.proofs.NamedPlaces.{no_place_unrelocated}
 use Rattle.spu_lift.proofs.lifting.Lifting.address_in.Goals as goal
 
 pub returns-in-None-clause-none : goal.returns-in-None-clause-none
-returns-in-None-clause-none c = λ p named. c.in-None.ensures.none named.x named.lifted
-
-pub returns-in-Some-clause-some : goal.returns-in-Some-clause-some
-returns-in-Some-clause-some c =
-    named_place c.args.self.now.tables.objects.now c.args.self.now.functions.sorted.items c.args.function c.args.spot c.in-Some.x c.place_named.result c.in-Some.ensures.some c.place_named.ensures
-
-pub returns-in-Some-clause-none : goal.returns-in-Some-clause-none
-returns-in-Some-clause-none c =
-    no_place_named c.args.self.now.tables.objects.now c.args.self.now.functions.sorted.items c.args.function c.args.spot c.in-Some.x c.place_named.result c.requires.places c.in-Some.ensures.some c.place_named.ensures
+returns-in-None-clause-none c = λ p named.
+    let os = c.args.self.now.tables.objects.now in
+    let none : reloc_on os c.args.spot.object c.args.spot.section c.args.spot.offset ≡ None = search rules in
+    no_place_unrelocated os c.args.self.now.functions.sorted.items c.args.function c.args.spot p none named
