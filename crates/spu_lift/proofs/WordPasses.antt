@@ -1,5 +1,5 @@
 -- The passes over words of functions: what a word shows, and the first that shows it.
-use Rattle.std.proofs.Common.{◌≡◌, ℕ, suc, ◌+◌, ◌-◌, ◌*◌, ◌%◌, ◌/◌, ◌^◌, ◌<◌, ◌≤◌, ◌⊎◌, Bool, true, false, not, List, [], ◌∷◌, length, get_or, map, All, Option, Some, None, slice_get, ℤ, refl, sym, ap, subst, ◌∙◌, inl, inr, arith}
+use Rattle.std.proofs.Common.{◌≡◌, ℕ, suc, ◌+◌, ◌-◌, ◌*◌, ◌%◌, ◌/◌, ◌^◌, ◌<◌, ◌≤◌, ◌⊎◌, Bool, true, false, not, ◌||◌, List, [], ◌∷◌, length, get_or, map, All, Option, Some, None, slice_get, ℤ, refl, sym, ap, subst, ◌∙◌, inl, inr, arith}
 use Rattle.std.specs.Prelude.{IfNone, IfSome, is_none}
 use Rattle.std.proofs.lemmas.Bool.{cases_lt, false≢true}
 use Rattle.std.proofs.lemmas.Option.{same_Some, slice_get_within, get_or_from_slice_get}
@@ -351,3 +351,35 @@ small_word check os fs i f w functions places there first =
     let is : get_or fs i f ≡ f = get_or_from_slice_get fs i f f there in
     let small : f.offset + f.size < 2 ^ 32 = subst (λ (x : FunctionSymbol). x.offset + x.size < 2 ^ 32) is (places.small i f within) in
     omega arith
+
+-- ---- words that show none of the faults
+
+-- an instruction that shows none of three shows none
+pub sound_instruction : (os : List Object) (fs : List FunctionSymbol) (number : ℕ) (x : Inst) (field : Option Meaning) (a b c : Bool) → a ≡ false → b ≡ false → c ≡ false
+    → ((e : Extent) → IsFunctionOf fs number e → (a ≡ true → IsFaultyInstruction words.BadTarget os e x field) × (IsFaultyInstruction words.BadTarget os e x field → a ≡ true))
+    → ((e : Extent) → IsFunctionOf fs number e → (b ≡ true → IsFaultyInstruction words.LinkRegister os e x field) × (IsFaultyInstruction words.LinkRegister os e x field → b ≡ true))
+    → ((e : Extent) → IsFunctionOf fs number e → (c ≡ true → IsFaultyInstruction words.ReadsCode os e x field) × (IsFaultyInstruction words.ReadsCode os e x field → c ≡ true))
+    → (check : WordCheck) (e : Extent) → IsFunctionOf fs number e → IsFaultyInstruction check os e x field → ⊥
+sound_instruction os fs number x field a b c not_a not_b not_c goes links reads words.Unknown e of bad = bad
+sound_instruction os fs number x field a b c not_a not_b not_c goes links reads words.BadTarget e of bad = false≢true (sym not_a ∙ (goes e of).1 bad)
+sound_instruction os fs number x field a b c not_a not_b not_c goes links reads words.LinkRegister e of bad = false≢true (sym not_b ∙ (links e of).1 bad)
+sound_instruction os fs number x field a b c not_a not_b not_c goes links reads words.ReadsCode e of bad = false≢true (sym not_c ∙ (reads e of).1 bad)
+
+pub sound_word : (os : List Object) (fs : List FunctionSymbol) (number : ℕ) (q : Spot) (x : Inst) → IsWordOf os q x
+    → ((check : WordCheck) (e : Extent) → IsFunctionOf fs number e → IsFaultyInstruction check os e x (field_of os q.object q.section q.offset x) → ⊥)
+    → (check : WordCheck) (e : Extent) (t : Section) → IsWordIn os fs number q e t → IsFaultyWord check os e q.offset (be_number t.bytes q.offset) → ⊥
+sound_word os fs number q x is none check e t within bad =
+    false≢true ((word_some check os fs number q e t x false within is (λ f. absurd (false≢true f), λ wrong. absurd (none check e within.function wrong))).1 bad)
+
+-- whatever is asked
+abbrev pub AreNoneBelow : List Object → FunctionSymbol → ℕ → Type 0
+AreNoneBelow os f w = (check : WordCheck) → HasNoneBelow check os f w
+
+abbrev pub AreSound : List Object → List FunctionSymbol → ℕ → Type 0
+AreSound os fs i = (check : WordCheck) → AreWordsGood check os fs i
+
+pub one_of_three : (a b c r : Bool) → r ≡ false → r ≡ (a || (b || c)) → (a ≡ false) × ((b ≡ false) × (c ≡ false))
+one_of_three false false false r not_r is = (refl, refl, refl)
+one_of_three true b c r not_r is = absurd (false≢true (sym not_r ∙ is))
+one_of_three false true c r not_r is = absurd (false≢true (sym not_r ∙ is))
+one_of_three false false true r not_r is = absurd (false≢true (sym not_r ∙ is))

@@ -47,10 +47,10 @@ impl Lifting<'_> {
         ensures ok { OnOk result (AreAbsentFrom 8 self.now.tables.objects.now ([])) }
         ensures err { IfErr result (IsLeastFrom 8 self.now.tables.objects.now ([])) }
     {
-        if self.are_sound_words() {
-            self.check_among_sound(alloc)
-        } else {
+        if self.have_faulty_words() {
             self.check_each(alloc)
+        } else {
+            self.check_among_sound(alloc)
         }
     }
 

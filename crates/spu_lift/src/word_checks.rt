@@ -1,6 +1,6 @@
 //! The faults of words of functions.
 
-ghost use Rattle.std.specs.Prelude.{◌≡◌, ◌↔◌, ◌⊎◌, [], IsTrue, IfErr, OnOk, MatchOption, Some};
+ghost use Rattle.std.specs.Prelude.{◌≡◌, ◌↔◌, ◌⊎◌, [], false, IsTrue, IfErr, OnOk, MatchOption, Some};
 ghost use Rattle.spu_word.specs.Bytes.{be_number};
 ghost use Rattle.spu_elf.specs.declared.objects.Section.{Section};
 ghost use Rattle.spu_isa.specs.declared.operation.Kind.TheVariants as kind;
@@ -87,64 +87,65 @@ impl Lifting<'_> {
         }
     }
 
-    /// Whether an instruction of a function has none of the faults.
-    fn is_sound_instruction(&self, function: u32, spot: Spot, x: &Inst) -> bool
+    /// Whether an instruction of a function has any of the faults.
+    fn is_faulty_instruction(&self, function: u32, spot: Spot, x: &Inst) -> bool
         requires lifting { IsLifting self.now }
         requires places { HasPlaces self.now.functions.sorted.items }
         ensures { let os = self.now.tables.objects.now in
-            IsTrue result → (check : WordCheck) (e : Extent) → IsFunctionOf self.now.functions.sorted.items function e
+            result ≡ false → (check : WordCheck) (e : Extent) → IsFunctionOf self.now.functions.sorted.items function e
             → IsFaultyInstruction check os e x.now (field_of os spot.object spot.section spot.offset x.now) → ⊥ }
     {
-        !self.shows_instruction(WordCheck::BadTarget, function, spot, x)
-            && !self.shows_instruction(WordCheck::LinkRegister, function, spot, x)
-            && !self.shows_instruction(WordCheck::ReadsCode, function, spot, x)
+        let goes_astray = self.shows_instruction(WordCheck::BadTarget, function, spot, x);
+        let links_otherwise = self.shows_instruction(WordCheck::LinkRegister, function, spot, x);
+        let reads_code = self.shows_instruction(WordCheck::ReadsCode, function, spot, x);
+        goes_astray || links_otherwise || reads_code
     }
 
-    /// Whether a word of a function has none of the faults.
-    fn is_sound_word(&self, function: u32, spot: Spot) -> bool
+    /// Whether a word of a function has any of the faults.
+    fn is_faulty_word(&self, function: u32, spot: Spot) -> bool
         requires lifting { IsLifting self.now }
         requires places { HasPlaces self.now.functions.sorted.items }
         ensures { let os = self.now.tables.objects.now in
-            IsTrue result → (check : WordCheck) (e : Extent) (t : Section) → IsWordIn os self.now.functions.sorted.items function spot e t
+            result ≡ false → (check : WordCheck) (e : Extent) (t : Section) → IsWordIn os self.now.functions.sorted.items function spot e t
             → IsFaultyWord check os e spot.offset (be_number t.bytes spot.offset) → ⊥ }
     {
         match self.tables.instruction(spot) {
-            Some(x) => self.is_sound_instruction(function, spot, &x),
-            None => false,
+            Some(x) => self.is_faulty_instruction(function, spot, &x),
+            None => true,
         }
     }
 
-    /// Whether no word of a function has any of the faults.
-    fn is_sound_function(&self, function: u32, f: &FunctionSymbol) -> bool
+    /// Whether a word of a function has any of the faults.
+    fn has_faulty_word(&self, function: u32, f: &FunctionSymbol) -> bool
         requires lifting { IsLifting self.now }
         requires places { HasPlaces self.now.functions.sorted.items }
         requires aligned { IsNowhere (Shows kinds.Misaligned self.now.tables.objects.now ([])) }
         requires number { IsNumberOf self.now.functions.sorted.items function f.now }
         ensures { let os = self.now.tables.objects.now in
-            IsTrue result → (check : WordCheck) (t : Section) → section_at os f.now.object f.now.section ≡ Some t
+            result ≡ false → (check : WordCheck) (t : Section) → section_at os f.now.object f.now.section ≡ Some t
             → HasNoWord check os (extent_in f.now) t }
     {
         for word in 0..f.word_count() {
-            if !self.is_sound_word(function, f.spot(word)) {
-                return false;
+            if self.is_faulty_word(function, f.spot(word)) {
+                return true;
             }
         }
-        true
+        false
     }
 
-    /// Whether no word of any function has any of the faults. It goes over the words once, and doesn't tell which of them has which.
-    pub fn are_sound_words(&self) -> bool
+    /// Whether a word of any function has any of the faults. Each word is read once, and what the fault is isn't told.
+    pub fn have_faulty_words(&self) -> bool
         requires lifting { IsLifting self.now }
         requires places { HasPlaces self.now.functions.sorted.items }
         requires aligned { IsNowhere (Shows kinds.Misaligned self.now.tables.objects.now ([])) }
-        ensures { IsTrue result → AreWordsSound self.now.tables.objects.now }
+        ensures { result ≡ false → AreWordsSound self.now.tables.objects.now }
     {
         for (index, f) in self.functions.as_slice().iter().enumerate() {
-            if !self.is_sound_function(index as u32 + 1, f) {
-                return false;
+            if self.has_faulty_word(index as u32 + 1, f) {
+                return true;
             }
         }
-        true
+        false
     }
 
     /// The first word of a function that has a fault, as its index.
