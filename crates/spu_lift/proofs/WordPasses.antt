@@ -1,5 +1,5 @@
 -- The passes over words of functions: what a word shows, and the first that shows it.
-use Rattle.std.proofs.Common.{◌≡◌, ℕ, suc, ◌+◌, ◌-◌, ◌*◌, ◌%◌, ◌/◌, ◌^◌, ◌<◌, ◌≤◌, ◌⊎◌, Bool, true, false, not, ◌||◌, List, [], ◌∷◌, length, get_or, map, All, Option, Some, None, slice_get, ℤ, refl, sym, ap, subst, ◌∙◌, inl, inr, arith}
+use Rattle.std.proofs.Common.{◌≡◌, ℕ, suc, ◌+◌, ◌-◌, ◌*◌, ◌%◌, ◌/◌, ◌^◌, ◌<◌, ◌≤◌, ◌⊎◌, Bool, true, false, not, List, [], ◌∷◌, length, get_or, map, All, Option, Some, None, slice_get, ℤ, refl, sym, ap, subst, ◌∙◌, inl, inr, arith}
 use Rattle.std.specs.Prelude.{IfNone, IfSome, is_none}
 use Rattle.std.proofs.lemmas.Bool.{cases_lt, false≢true}
 use Rattle.std.proofs.lemmas.Option.{same_Some, slice_get_within, get_or_from_slice_get}
@@ -377,9 +377,3 @@ AreNoneBelow os f w = (check : WordCheck) → HasNoneBelow check os f w
 
 abbrev pub AreSound : List Object → List FunctionSymbol → ℕ → Type 0
 AreSound os fs i = (check : WordCheck) → AreWordsGood check os fs i
-
-pub one_of_three : (a b c r : Bool) → r ≡ false → r ≡ (a || (b || c)) → (a ≡ false) × ((b ≡ false) × (c ≡ false))
-one_of_three false false false r not_r is = (refl, refl, refl)
-one_of_three true b c r not_r is = absurd (false≢true (sym not_r ∙ is))
-one_of_three false true c r not_r is = absurd (false≢true (sym not_r ∙ is))
-one_of_three false false true r not_r is = absurd (false≢true (sym not_r ∙ is))

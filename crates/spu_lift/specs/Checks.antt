@@ -218,9 +218,12 @@ IsFaultyWord words.ReadsCode os e offset w = IsWrong os ReadsOfCode e offset w
 abbrev pub ShowsWord : WordCheck → List Object → List ℕ → LiftFault → Type 0
 ShowsWord check os = OfWord os (kind_of_word check) (IsFaultyWord check os)
 
--- no word of a function shows any of these faults
+-- no word of a function has any of the faults
 pub record AreWordsSound (os : List Object) : Type 0 where
-  pub each : (check : WordCheck) → IsNowhere (ShowsWord check os)
+  pub known : IsNowhere (Shows UnknownInstruction os ([]))
+  pub targets : IsNowhere (Shows BadTarget os ([]))
+  pub links : IsNowhere (Shows LinkRegister os ([]))
+  pub reads : IsNowhere (Shows ReadsCode os ([]))
 
 -- functions are numbered from 1 on
 pub record IsNumberOf (fs : List FunctionSymbol) (number : ℕ) (f : FunctionSymbol) : Type 0 where

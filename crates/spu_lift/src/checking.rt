@@ -8,7 +8,7 @@ ghost use Rattle.spu_lift.specs.declared.fault.LiftKind.TheVariants as kinds;
 ghost use Rattle.spu_lift.specs.WellFormed.{IsWellFormed as IsWellFormedProgram};
 ghost use Rattle.spu_lift.specs.LiftFaults.{IsAbsent, IsRefused, Lifted, Shows};
 ghost use Rattle.spu_lift.specs.FunctionTables.{HasPlaces, IsLifting};
-ghost use Rattle.spu_lift.specs.Checks.{AreAbsentFrom, AreWordsSound, IsEntryAt, IsLeastFrom, IsNowhere};
+ghost use Rattle.spu_lift.specs.Checks.{AreAbsentFrom, IsEntryAt, IsLeastFrom, IsNowhere};
 
 use crate::alignment_checks::check_alignment;
 use crate::fault::LiftFault;
@@ -58,7 +58,10 @@ impl Lifting<'_> {
     fn check_among_sound(&self, alloc: Global) -> Result<(), LiftFault>
         requires lifting { IsLifting self.now }
         requires places { HasPlaces self.now.functions.sorted.items }
-        requires sound { AreWordsSound self.now.tables.objects.now }
+        requires known { IsNowhere (Shows kinds.UnknownInstruction self.now.tables.objects.now ([])) }
+        requires targets { IsNowhere (Shows kinds.BadTarget self.now.tables.objects.now ([])) }
+        requires links { IsNowhere (Shows kinds.LinkRegister self.now.tables.objects.now ([])) }
+        requires reads { IsNowhere (Shows kinds.ReadsCode self.now.tables.objects.now ([])) }
         ensures ok { OnOk result (AreAbsentFrom 8 self.now.tables.objects.now ([])) }
         ensures err { IfErr result (IsLeastFrom 8 self.now.tables.objects.now ([])) }
     {

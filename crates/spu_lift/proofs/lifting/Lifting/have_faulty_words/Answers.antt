@@ -1,5 +1,6 @@
 use Rattle.std.proofs.Common.{◌<◌, length}
 use Rattle.std.proofs.lemmas.Option.{slice_get-get_or}
+use Rattle.spu_lift.specs.declared.word_checks.WordCheck.TheVariants as words
 use Rattle.spu_lift.proofs.WordPasses.{one_function_more, words_nowhere, zero_function}
 use Rattle.spu_lift.proofs.lifting.Lifting.have_faulty_words.Goals as goal
 
@@ -13,5 +14,13 @@ loop-index-preserved c = λ check.
 
 pub returns : goal.returns
 returns c = λ sound.
+    let os = c.args.self.now.tables.objects.now in
+    let fs = c.args.self.now.functions.sorted.items in
+    let i = c.loop-index.index in
     let all = rw c.as_slice-f-items.ensures at c.loop-index-test.false in
-    record { each = λ check. words_nowhere check c.args.self.now.tables.objects.now c.args.self.now.functions.sorted.items c.loop-index.index c.requires.lifting.functions all (c.loop-index.invariant check) }
+    record {
+      known = words_nowhere words.Unknown os fs i c.requires.lifting.functions all (c.loop-index.invariant words.Unknown);
+      targets = words_nowhere words.BadTarget os fs i c.requires.lifting.functions all (c.loop-index.invariant words.BadTarget);
+      links = words_nowhere words.LinkRegister os fs i c.requires.lifting.functions all (c.loop-index.invariant words.LinkRegister);
+      reads = words_nowhere words.ReadsCode os fs i c.requires.lifting.functions all (c.loop-index.invariant words.ReadsCode);
+    }
