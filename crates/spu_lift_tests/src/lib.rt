@@ -9,3 +9,5 @@ mod listing;
 mod made;
 #[cfg(test)]
 mod programs;
+#[cfg(test)]
+mod unread;
