@@ -1,5 +1,5 @@
 -- An object is well formed without the names of its sections, and with any well-formed relocations.
-use Rattle.std.proofs.Common.{◌≡◌, ℕ, ◌≤◌, List, length, map, Some, slice_get, sym, ap, subst, ◌∙◌}
+use Rattle.std.proofs.Common.{◌≡◌, ℕ, ◌≤◌, List, [], length, map, Some, slice_get, sym, ap, subst, ◌∙◌}
 use Rattle.std.specs.List.{All}
 use Rattle.std.specs.Option.{option_map}
 use Rattle.std.proofs.lemmas.List.{length-map}
@@ -12,7 +12,10 @@ use Rattle.spu_elf.specs.declared.objects.Section.{Section}
 use Rattle.spu_elf.specs.declared.objects.Symbol.{Symbol}
 use Rattle.spu_elf.specs.declared.objects.Reloc.{Reloc}
 use Rattle.spu_elf.specs.declared.objects.Object.{Object}
-use Rattle.spu_lift_tests.specs.Unread.{unnamed}
+
+-- a section without its name
+abbrev pub unnamed : Section → Section
+unnamed t = record t { name = [] }
 
 unnamed_at : (ts : List Section) (k : ℕ) (t : Section) → slice_get ts k ≡ Some t → slice_get (map unnamed ts) k ≡ Some (unnamed t)
 unnamed_at ts k t at = slice_get-map unnamed ts k ∙ ap (option_map unnamed) at

@@ -1,10 +1,10 @@
 //! Lifting an object that was never read from a file, and that no file holds: its sections have no names, and its relocations don't
 //! stand in order of their sections.
 
-ghost use Rattle.std.specs.Prelude.{◌≡◌, ◌++◌, ◌≤◌, length, All, IfOk, map};
+ghost use Rattle.std.specs.Prelude.{◌≡◌, ◌≤◌, [], length, All, IfOk, map};
 ghost use Rattle.spu_word.specs.declared.limits.TheConstants.{MAX_OBJECTS};
 ghost use Rattle.spu_elf.specs.WellFormed.{IsWellFormed, IsWellFormedReloc};
-ghost use Rattle.spu_lift_tests.specs.Unread.{unnamed};
+ghost use Rattle.spu_elf.specs.declared.objects.Section.{Section};
 
 use crate::listing::listing;
 use crate::made::objects;
@@ -17,7 +17,7 @@ use std::test::Fail;
 
 /// The sections without their names.
 fn without_names(alloc: Global, sections: &[Section]) -> Result<Seq<Section>, OutOfMemory>
-    ensures { IfOk result (λ ts. ts ≡ map unnamed sections.now) }
+    ensures { IfOk result (λ ts. ts ≡ map (λ (t : Section). record t { name = [] }) sections.now) }
 {
     let mut all = Seq::new(alloc);
     for s in sections {

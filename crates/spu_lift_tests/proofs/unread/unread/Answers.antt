@@ -3,8 +3,7 @@ use Rattle.spu_elf.specs.WellFormed.{IsWellFormed}
 use Rattle.spu_elf.specs.declared.objects.Section.{Section}
 use Rattle.spu_elf.specs.declared.objects.Symbol.{Symbol}
 use Rattle.spu_elf.specs.declared.objects.Object.{Object}
-use Rattle.spu_lift_tests.specs.Unread.{unnamed}
-use Rattle.spu_lift_tests.proofs.Unnamed.{unread_formed}
+use Rattle.spu_lift_tests.proofs.Unnamed.{unnamed, unread_formed}
 use Rattle.spu_lift_tests.proofs.unread.unread.Goals as goal
 
 pub returns : goal.returns

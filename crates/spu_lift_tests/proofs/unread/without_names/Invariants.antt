@@ -1,5 +1,5 @@
 use Rattle.std.proofs.Common.{◌≡◌, ◌++◌, drop, map}
-use Rattle.spu_lift_tests.specs.Unread.{unnamed}
+use Rattle.spu_lift_tests.proofs.Unnamed.{unnamed}
 use Rattle.spu_lift_tests.proofs.unread.without_names.Given as goal
 
 abbrev pub invariant-loop-s : goal.invariant-loop-s
