@@ -2,12 +2,15 @@
 
 ghost use Rattle.std.specs.Prelude.{◌≡◌, ◌+◌, ◌*◌, ◌/◌, ◌≤◌, ◌<◌, ◌^◌, ◌==◌, ◌∷◌, ◌++◌, ℕ, List, [], length, map, drop, Option, Some, None, unwrap_or, option_map, IfOk, OnOk, IsErrOf, if◌then◌else◌};
 ghost use Rattle.std.specs.List.{All, filter, filter_map, flat_map, range_with_len};
+ghost use Rattle.std.specs.List.Sorted.{IsNonDecreasingBy, IsPermutation, IsStableByKey};
+ghost use Rattle.std.specs.Ordering.{nat_cmp};
 ghost use Rattle.spu_word.specs.Bytes.{be_number, be_half_number};
 ghost use Rattle.spu_elf.specs.Bounds.{Lies, IsNear, IsWithin};
 ghost use Rattle.spu_elf.specs.Checks.{Names, each, ◌then_check◌};
-ghost use Rattle.spu_elf.specs.Reading.{bytes_of, name_of, keeps, number_of, section_kind, section_of, keeps_symbol, symbol_kind, symbol_place, symbol_of, reloc_kind, reloc_symbol, reloc_places, reloc_at, relocs_of, relocs_for, relocs, symbols_header, symbol_numbers, reloc_tables, section_names, symbol_names, section_numbers, entries, entry_checks, table_checks, object_with, no_object, object_in, object_fault, version_check, is_blank, headers, header_or};
+ghost use Rattle.spu_elf.specs.Reading.{bytes_of, name_of, keeps, number_of, section_kind, section_of, keeps_symbol, symbol_kind, symbol_place, symbol_of, reloc_kind, reloc_symbol, reloc_places, reloc_at, relocs_of, relocs, symbols_header, symbol_numbers, reloc_tables, section_names, symbol_names, section_numbers, entries, entry_checks, table_checks, object_with, no_object, object_in, object_fault, version_check, is_blank, headers, header_or};
 ghost use Rattle.spu_elf.specs.Validity.{IsValid};
 ghost use Rattle.spu_elf.specs.WellFormed.{IsWellFormed, IsAsRead};
+ghost use Rattle.spu_elf.specs.declared.reading.entries.Header.{Header};
 ghost use Rattle.spu_elf.specs.declared.faults.ElfFault.TheVariants.{Fault};
 ghost use Rattle.spu_elf.specs.declared.faults.ElfKind.{ElfKind};
 ghost use Rattle.spu_word.specs.declared.limits.TheConstants.{MAX_FILE_SIZE, MAX_SECTIONS};
@@ -221,30 +224,37 @@ fn add_table(
     Ok(())
 }
 
-/// Adds the relocations of section k.
-#[tactic(auto, using(crate::proofs::Ranges::tables_from, crate::proofs::Ranges::tables_other, crate::proofs::Ranges::tables_done))]
-fn add_target(
+/// The tables of relocations in order of the sections that they are of; those of one section keep their order.
+fn by_target(alloc: Global, tables: &[Header]) -> Result<Vec<Header>, OutOfMemory>
+    ensures moved { IfOk result (λ ts. IsPermutation tables.now ts.items) }
+    ensures sorted { IfOk result (λ ts. IsNonDecreasingBy (λ (h : Header). h.info) ts.items) }
+    ensures stable { IfOk result (λ ts. IsStableByKey (λ (h : Header). h.info) nat_cmp tables.now ts.items) }
+{
+    let mut sorted = Vec::from_slice(alloc, tables)?;
+    sorted.sort_by_key(|h| h.info)?;
+    Ok(sorted)
+}
+
+/// Adds the relocations of tables.
+#[tactic(auto, using(crate::proofs::Ranges::all_from, crate::proofs::Ranges::all_done))]
+fn add_tables(
     out: &mut Seq<Reloc>,
     bytes: &[u8],
     numbers: &[Option<u32>],
     symbols: &[Option<u32>],
     tables: &[Header],
-    k: usize,
 ) -> Result<(), OutOfMemory>
     requires within { All (IsWithin (length bytes.now)) tables.now }
     requires small { length bytes.now ≤ MAX_FILE_SIZE }
-    ensures { OnOk result (out.new ≡ out.old ++ relocs_for bytes.now numbers.now symbols.now tables.now k) }
+    ensures { OnOk result (out.new ≡ out.old ++ flat_map (relocs_of bytes.now numbers.now symbols.now) tables.now) }
 {
     for h in tables {
-        if h.info as usize == k {
-            add_table(out, bytes, numbers, symbols, h)?;
-        }
+        add_table(out, bytes, numbers, symbols, h)?;
     }
     Ok(())
 }
 
 /// The relocations, in order of their sections.
-#[tactic(auto, using(crate::proofs::Ranges::targets_from, crate::proofs::Ranges::targets_done))]
 fn relocs(
     alloc: Global,
     bytes: &[u8],
@@ -255,12 +265,12 @@ fn relocs(
 ) -> Result<Seq<Reloc>, OutOfMemory>
     requires within { All (IsWithin (length bytes.now)) tables.now }
     requires small { length bytes.now ≤ MAX_FILE_SIZE }
+    requires targets { All (λ (h : Header). h.info < count) tables.now }
     ensures { IfOk result (λ rs. rs ≡ relocs bytes.now numbers.now symbols.now tables.now count) }
 {
+    let sorted = by_target(alloc, tables)?;
     let mut out = Seq::new(alloc);
-    for k in 0..count {
-        add_target(&mut out, bytes, numbers, symbols, tables, k)?;
-    }
+    add_tables(&mut out, bytes, numbers, symbols, sorted.as_slice())?;
     Ok(out)
 }
 
@@ -308,6 +318,7 @@ fn object_with(
     requires entries { listed.now ≡ entries bytes.now (symbols_header headers.now) }
     requires symbols { symbols_listed.now ≡ symbol_numbers numbers.now listed.now }
     requires tables { tables.now ≡ reloc_tables numbers.now headers.now }
+    requires targets { All (λ (h : Header). h.info < length headers.now) tables.now }
     ensures { IfOk result (λ o. o ≡ object_with bytes.now headers.now numbers.now) }
 {
     let h = symbols_header(bytes.len(), headers);
@@ -335,6 +346,7 @@ fn read_entries(
     requires lie { All (Lies (length bytes.now)) headers.now }
     requires within { All (IsWithin (length bytes.now)) tables.now }
     requires tables { tables.now ≡ reloc_tables numbers.now headers.now }
+    requires targets { All (λ (h : Header). h.info < length headers.now) tables.now }
     ensures checks { Names result (entry_checks bytes.now headers.now numbers.now) }
     ensures value { IfOk result (λ o. o ≡ object_with bytes.now headers.now numbers.now) }
 {

@@ -160,7 +160,8 @@ pub fn section_numbers(
     headers: &[Header],
 ) -> Result<Seq<Option<u32>>, OutOfMemory>
     requires { length headers.now ≤ MAX_SECTIONS }
-    ensures { IfOk result (λ ns. ns ≡ numbering (keeps table.now) 0 headers.now) }
+    ensures value { IfOk result (λ ns. ns ≡ numbering (keeps table.now) 0 headers.now) }
+    ensures count { IfOk result (λ ns. length ns ≡ length headers.now) }
 {
     let mut numbers = Seq::new(alloc);
     let mut next = 0;
@@ -177,7 +178,8 @@ pub fn section_numbers(
 
 /// The new number of section k, if it is kept.
 pub fn number_of(numbers: &[Option<u32>], k: usize) -> Option<u32>
-    ensures { result ≡ number_of numbers.now k }
+    ensures value { result ≡ number_of numbers.now k }
+    ensures below { IfSome result (λ _. k < length numbers.now) }
 {
     match numbers.get(k) {
         Some(number) => *number,
@@ -255,6 +257,7 @@ pub fn check_symbol_table(headers: &[Header]) -> Result<(), ElfFault>
 fn is_relocs(numbers: &[Option<u32>], h: &Header) -> bool
     ensures value { result ≡ is_relocs numbers.now h.now }
     ensures kind { IsTrue result → (SHT_NULL < h.now.kind) × (h.now.kind ≢ SHT_NOBITS) }
+    ensures target { IsTrue result → h.now.info < length numbers.now }
 {
     (h.kind == SHT_RELA || h.kind == SHT_REL) && number_of(numbers, h.info as usize).is_some()
 }
@@ -268,9 +271,11 @@ pub fn reloc_tables(
 ) -> Result<Seq<Header>, OutOfMemory>
     requires near { All IsNear headers.now }
     requires lie { All (Lies len) headers.now }
+    requires numbers { length numbers.now ≤ length headers.now }
     ensures value { IfOk result (λ ts. ts ≡ reloc_tables numbers.now headers.now) }
     ensures near { IfOk result (λ ts. All IsNear ts) }
     ensures within { IfOk result (λ ts. All (IsWithin len) ts) }
+    ensures targets { IfOk result (λ ts. All (λ (h : Header). h.info < length headers.now) ts) }
 {
     let mut tables = Seq::new(alloc);
     for h in headers {
