@@ -198,10 +198,20 @@ impl Ideal {
     }
 
     /// The place, as a function and the index of a word in it; after the end that of the last instruction.
+    #[inline(always)]
     pub fn place(&self) -> (u32, u32)
         ensures function { result.0 ≡ (state_of self.now).f }
         ensures index { result.1 ≡ (state_of self.now).i }
     {
         (self.f, self.i)
+    }
+
+    /// How many calls are open.
+    #[tactic(auto, using(crate::proofs::Calls::as_many_open))]
+    #[inline(always)]
+    pub fn open_calls(&self) -> usize
+        ensures { result ≡ length (state_of self.now).calls }
+    {
+        self.calls.len()
     }
 }

@@ -25,7 +25,8 @@ use Rattle.spu_image.specs.Agreeing.{Agrees}
 use Rattle.spu_image.specs.Matching.{SameEnd}
 use Rattle.spu_image.specs.Headline.{CanStart, Headline, Hop}
 use Rattle.spu_image.specs.Overlays.{IsOverlayExec}
-use Rattle.spu_image.specs.Visits.{visits, last_in, miss_count, loads_in, LoadsRuns}
+use Rattle.spu_ideal.specs.Visits.{visits, last_in, miss_count}
+use Rattle.spu_image.specs.Visits.{loads_in, LoadsRuns}
 use Rattle.spu_image.specs.RegionSamples.{region_after, region_input, region_layout, region_plan, region_tour}
 use Rattle.spu_image.proofs.Agreement.{link_leads}
 use Rattle.spu_image.proofs.PlannedHeadlines.{planned_headline}

@@ -10,6 +10,7 @@ use Rattle.spu_ls.specs.Hops.{settles, hop}
 use Rattle.spu_ls.specs.Loads.{is_load, load_count}
 use Rattle.spu_ideal.specs.declared.ending.IdealEnd.{IdealEnd}
 use Rattle.spu_ideal.specs.State.{Sym}
+use Rattle.spu_ideal.specs.Visits.{is_visit, visits, is_in_buffer, last_in, is_miss_of, miss_count}
 use Rattle.spu_layout.specs.Layouts.{Layout, is_between}
 use Rattle.spu_loader.specs.Code.{mapped_at}
 use Rattle.spu_loader.specs.Overlays.{Overlay, buffer_of, IsLaid}
@@ -18,7 +19,7 @@ use Rattle.spu_loader.proofs.Counting.{kept_word, no_load}
 use Rattle.spu_loader.proofs.Ready.{below_buffers}
 use Rattle.spu_image.specs.Headline.{hops}
 use Rattle.spu_image.specs.Endings.{most_steps}
-use Rattle.spu_image.specs.Visits.{is_visit, visits, is_in_buffer, last_in, is_miss_of, miss_count, loads_in, misses_at, LoadsAsVisited, HopLoadsAsVisited, LoadsTold}
+use Rattle.spu_image.specs.Visits.{loads_in, misses_at, LoadsAsVisited, HopLoadsAsVisited, LoadsTold}
 use Rattle.spu_image.proofs.Growing.{step_counts, step_stays}
 use Rattle.spu_image.proofs.HopSteps.{IsLed, settles_led, hop_led, begun_led}
 use Rattle.spu_image.proofs.LoadedHops.{word_in, no_steps, HopLoads, missed_none}

@@ -680,4 +680,14 @@ impl Machine {
     {
         self.pc
     }
+
+    /// The word at an address of the local store, a multiple of 4 below 262,144.
+    #[inline(always)]
+    pub fn store_word(&self, at: u32) -> u32
+        requires aligned { at % WORD_SIZE ≡ 0 }
+        requires inside { at < STORE_SIZE }
+        ensures { result ≡ fetch (state_of self.now).store at }
+    {
+        word_at(&self.store, at as usize)
+    }
 }
