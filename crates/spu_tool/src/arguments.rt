@@ -325,6 +325,12 @@ impl<'a> Arguments<'a> {
                 files.as_slice(),
                 Action::Check(options.into_check(alloc)?),
             ),
+            Command::Loads => reading_request(
+                alloc,
+                operands.as_slice(),
+                files.as_slice(),
+                Action::Loads(options.into_loads(alloc)?),
+            ),
         }
     }
 }
@@ -464,6 +470,8 @@ mod tests {
             ("check --entry= a", 2),
             ("check a --mail=", 3),
             ("check a --area=n:0:f b --area=n:16:g", 5),
+            ("loads", 2),
+            ("loads a --stack-syms", 3),
         ];
         for (line, fault) in cases {
             let words = words_of(rt.alloc(), line)?;
@@ -481,6 +489,7 @@ mod tests {
             ("link a b --buffers=3", 4),
             ("link a b --largest=512", 4),
             ("check a --overlay=auto", 3),
+            ("loads a --overlay=auto --buffers=2 --image=64", 5),
         ];
         for (line, fault) in cases {
             let words = words_of(rt.alloc(), line)?;
@@ -497,6 +506,11 @@ mod tests {
                 let rooted = options.rooted.len();
                 Some((options.mode, rooted, options.buffers, options.largest))
             }
+            Action::Loads(options) => {
+                let rooted = options.link.rooted.len();
+                let LinkOptions { mode, buffers, largest, .. } = &options.link;
+                Some((*mode, rooted, *buffers, *largest))
+            }
             Action::Assemble | Action::Map | Action::Embed(_) => None,
             Action::Run(_) | Action::Check(_) => None,
         }
@@ -506,6 +520,7 @@ mod tests {
     fn overlays_are_asked_for(rt: HostRuntime) -> Result<(), Fail> {
         let cases = [
             ("link a b", Mode::Auto, 0, 1, 16_384),
+            ("loads --overlay=never a --buffers=8", Mode::Never, 0, 8, 16_384),
             (
                 "link --overlay=always --root=.text.f,g a --buffers=0x2 b --largest=65536",
                 Mode::Always,
@@ -528,6 +543,7 @@ mod tests {
         match action {
             Action::Run(options) => Some(options.steps),
             Action::Check(options) => Some(options.run.steps),
+            Action::Loads(options) => Some(options.run.steps),
             Action::Assemble | Action::Link(_) | Action::Map | Action::Embed(_) => None,
         }
     }
@@ -538,6 +554,7 @@ mod tests {
             ("run a", 1_000_000),
             ("run a --steps=0", 0),
             ("run --steps=0020 a", 20),
+            ("loads --steps=7 a", 7),
             ("run --steps=0xfFfFfFfF a", 0xffff_ffff),
             (
                 "run a --steps=00000000000000000000004294967295",
@@ -559,6 +576,7 @@ mod tests {
         match &request.action {
             Action::Run(options) => Some(options.places.len()),
             Action::Check(options) => Some(options.run.places.len()),
+            Action::Loads(options) => Some(options.run.places.len()),
             Action::Assemble | Action::Link(_) | Action::Map | Action::Embed(_) => None,
         }
     }

@@ -67,7 +67,7 @@ fn reason_name(reason: Reason) -> &'static str
 }
 
 /// How a symbolic run of a program ended.
-fn check_line(alloc: Global, p: &Prog, end: IdealEnd) -> Result<Bytes, OutOfMemory>
+pub fn check_line(alloc: Global, p: &Prog, end: IdealEnd) -> Result<Bytes, OutOfMemory>
     ensures { IfOk result (λ t. t ≡ check_line p.now end) }
 {
     match end {
@@ -81,7 +81,8 @@ fn check_line(alloc: Global, p: &Prog, end: IdealEnd) -> Result<Bytes, OutOfMemo
     }
 }
 
-fn check_status(end: IdealEnd) -> Status
+/// The status of a symbolic run that ended so.
+pub fn check_status(end: IdealEnd) -> Status
     ensures { result ≡ check_status end }
 {
     match end {

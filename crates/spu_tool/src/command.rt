@@ -21,6 +21,8 @@ pub enum Command {
     Run,
     /// `check IN..`
     Check,
+    /// `loads IN..`
+    Loads,
 }
 
 impl Command {
@@ -37,6 +39,7 @@ impl Command {
             b"embed" => Some(Command::Embed),
             b"run" => Some(Command::Run),
             b"check" => Some(Command::Check),
+            b"loads" => Some(Command::Loads),
             _ => None,
         }
     }
@@ -52,6 +55,7 @@ impl Command {
             Command::Embed => 3,
             Command::Run => 1,
             Command::Check => MAX_OBJECTS as usize,
+            Command::Loads => MAX_OBJECTS as usize,
         }
     }
 
@@ -75,6 +79,12 @@ impl Command {
             (Command::Check, OptionName::Image | OptionName::StackSyms) => false,
             (Command::Check, OptionName::Overlay | OptionName::Root) => false,
             (Command::Check, OptionName::Buffers | OptionName::Largest) => false,
+            (Command::Loads, OptionName::Stack | OptionName::Entry) => true,
+            (Command::Loads, OptionName::StackSyms) => false,
+            (Command::Loads, OptionName::Overlay | OptionName::Root) => true,
+            (Command::Loads, OptionName::Buffers | OptionName::Largest) => true,
+            (Command::Loads, OptionName::Steps | OptionName::Mail) => true,
+            (Command::Loads, OptionName::Area | OptionName::Image) => true,
             (Command::Assemble | Command::Map | Command::Embed, _) => false,
         }
     }
@@ -84,8 +94,8 @@ impl Command {
         ensures { result ≡ is_operand self index word.now }
     {
         match self {
-            Command::Assemble | Command::Link | Command::Map | Command::Run | Command::Check =>
-                true,
+            Command::Assemble | Command::Link | Command::Map | Command::Run => true,
+            Command::Check | Command::Loads => true,
             Command::Embed => index != 0 || is_symbol_name(word),
         }
     }

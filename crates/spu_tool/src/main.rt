@@ -18,6 +18,9 @@ mod link_lines;
 #[cfg(test)]
 mod link_tests;
 mod lists;
+mod loads_command;
+#[cfg(test)]
+mod loads_tests;
 mod made;
 mod making;
 mod map_command;

@@ -8,6 +8,7 @@ use crate::assemble_command::assemble_command;
 use crate::check_command::check_command;
 use crate::embed_command::{embed_command, run_any};
 use crate::link_command::link_command;
+use crate::loads_command::loads_command;
 use crate::made::Made;
 use crate::map_command::map_command;
 use crate::request::Action;
@@ -91,6 +92,17 @@ pub fn make(
             let areas = options.run.places.len();
             let (objects, areas_files) = files_split(files, areas);
             check_command(
+                alloc,
+                options,
+                names_before(names, areas),
+                objects,
+                areas_files,
+            )
+        }
+        Action::Loads(options) => {
+            let areas = options.run.places.len();
+            let (objects, areas_files) = files_split(files, areas);
+            loads_command(
                 alloc,
                 options,
                 names_before(names, areas),

@@ -212,6 +212,15 @@ pub struct RunOptions {
     pub image: u64,
 }
 
+/// The options of a count of loads.
+#[derive(Drop)]
+pub struct LoadsOptions {
+    /// The options of the link.
+    pub link: LinkOptions,
+    /// The options of both runs.
+    pub run: RunOptions,
+}
+
 /// The name of the entry function, `main` where the words don't say.
 fn entry_name(alloc: Global, entry: Option<Name>) -> Result<Name, OutOfMemory>
     ensures { IfOk result (λ name. name ≡ entry_name entry) }
@@ -223,7 +232,7 @@ fn entry_name(alloc: Global, entry: Option<Name>) -> Result<Name, OutOfMemory>
 }
 
 impl Options {
-    ghost use Rattle.spu_tool.specs.Options.{no_options, with_steps, with_mail, with_place, with_image, with_stack, with_entry, with_stack_syms, with_overlay, with_root, with_buffers, with_largest, IsTaken, run_options, link_options, check_options};
+    ghost use Rattle.spu_tool.specs.Options.{no_options, with_steps, with_mail, with_place, with_image, with_stack, with_entry, with_stack_syms, with_overlay, with_root, with_buffers, with_largest, IsTaken, run_options, link_options, check_options, loads_options};
 
     /// No option was given.
     pub fn new(alloc: Global) -> Options
@@ -409,6 +418,27 @@ impl Options {
         Ok(CheckOptions {
             entry,
             limit: self.stack.unwrap_or(DEFAULT_LIMIT),
+            run: self.into_run(alloc),
+        })
+    }
+
+    /// The options of a count of loads.
+    pub fn into_loads(mut self, alloc: Global) -> Result<LoadsOptions, OutOfMemory>
+        ensures { IfOk result (λ o. o ≡ loads_options self) }
+    {
+        let entry = entry_name(alloc, self.entry.take())?;
+        let rooted = self.rooted.take().unwrap_or(Seq::new(alloc));
+        let link = LinkOptions {
+            entry,
+            limit: self.stack.unwrap_or(DEFAULT_LIMIT),
+            mode: self.overlay.unwrap_or(Mode::Auto),
+            rooted,
+            stack_syms: self.stack_syms,
+            buffers: self.buffers.unwrap_or(DEFAULT_BUFFERS),
+            largest: self.largest.unwrap_or(DEFAULT_LARGEST),
+        };
+        Ok(LoadsOptions {
+            link,
             run: self.into_run(alloc),
         })
     }

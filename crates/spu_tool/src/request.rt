@@ -1,6 +1,6 @@
 //! What a command line asks for.
 
-use crate::options::{CheckOptions, RunOptions};
+use crate::options::{CheckOptions, LoadsOptions, RunOptions};
 use spu_image::LinkOptions;
 use spu_word::Name;
 
@@ -19,6 +19,8 @@ pub enum Action {
     Run(RunOptions),
     /// What the symbolic run of objects shows.
     Check(CheckOptions),
+    /// How often regions are loaded and missed in runs of objects.
+    Loads(LoadsOptions),
 }
 
 /// What a command line asks for: the files that are read, in order, the file that is written, and what is made of them.

@@ -8,7 +8,7 @@ use std::alloc::Global;
 use std::io;
 
 const USAGE: &str =
-    "asm IN OUT | link OUT IN.. [--stack=N] [--entry=NAME] [--stack-syms] [--overlay=auto|always|never] [--root=A,B] [--buffers=N] [--largest=B] | map IN | embed NAME IN OUT | run IN [--steps=N] [--mail=N,N] [--area=NAME:EA:FILE] [--image=EA] | check IN.. [--stack=N] [--entry=NAME] [--steps=N] [--mail=N,N] [--area=NAME:EA:FILE]";
+    "asm IN OUT | link OUT IN.. [--stack=N] [--entry=NAME] [--stack-syms] [--overlay=auto|always|never] [--root=A,B] [--buffers=N] [--largest=B] | map IN | embed NAME IN OUT | run IN [--steps=N] [--mail=N,N] [--area=NAME:EA:FILE] [--image=EA] | check IN.. [--stack=N] [--entry=NAME] [--steps=N] [--mail=N,N] [--area=NAME:EA:FILE] | loads IN.. [--stack=N] [--entry=NAME] [--overlay=auto|always|never] [--root=A,B] [--buffers=N] [--largest=B] [--steps=N] [--mail=N,N] [--area=NAME:EA:FILE] [--image=EA]";
 
 /// The words of a command, or of all.
 fn usage(words: &[String]) -> &'static str {
@@ -25,6 +25,8 @@ fn usage(words: &[String]) -> &'static str {
         Some(Command::Check) => {
             "check IN.. [--stack=N] [--entry=NAME] [--steps=N] [--mail=N,N] [--area=NAME:EA:FILE]"
         }
+        Some(Command::Loads) =>
+            "loads IN.. [--stack=N] [--entry=NAME] [--overlay=auto|always|never] [--root=A,B] [--buffers=N] [--largest=B] [--steps=N] [--mail=N,N] [--area=NAME:EA:FILE] [--image=EA]",
         None => USAGE,
     }
 }
