@@ -6,7 +6,7 @@ ghost use Rattle.spu_word.specs.declared.limits.TheConstants.{MAX_STACK_LIMIT};
 ghost use Rattle.spu_plan.specs.declared.constants.TheConstants.{BUFFER_COUNTS, BUFFER_SIZES};
 ghost use Rattle.spu_lift.specs.WellFormed.{IsWellFormed};
 
-use spu_elf::{SymKind, SymPlace, Symbol, is_same};
+use spu_elf::{Exec, SymKind, SymPlace, Symbol, is_same};
 use spu_image::{LinkFault, LinkOptions, Linked, link_judged};
 use spu_judge::judge_program;
 use spu_lift::Prog;
@@ -378,6 +378,27 @@ fn first_difference(bytes: &[u8], words: &[u32]) -> Option<u32> {
     None
 }
 
+/// The bytes of the first segment.
+fn root_of(exec: &Exec) -> &[u8] {
+    match exec.segments.get(0) {
+        Some(root) => root.bytes.as_slice(),
+        None => &[],
+    }
+}
+
+/// Where each of four segments lies, and how many bytes it has; None where there aren't four.
+fn spans(exec: &Exec) -> Option<[(u32, usize); 4]> {
+    match exec.segments.as_slice() {
+        [a, b, c, d] => Some([
+            (a.address, a.bytes.len()),
+            (b.address, b.bytes.len()),
+            (c.address, c.bytes.len()),
+            (d.address, d.bytes.len()),
+        ]),
+        _ => None,
+    }
+}
+
 /// The value, the size and the segment of a global symbol with this name and kind.
 fn told(symbol: &Symbol, name: &[u8], kind: SymKind) -> Option<(u32, u32, u32)> {
     match symbol.place {
@@ -466,34 +487,17 @@ fn three_regions_share_two_buffers(rt: HostRuntime) -> Result<(), Fail> {
         (plan.regions, plan.buffer, plan.buffers, plan.end),
         (3, 1_024, 2, 2_816)
     );
-    match exec.segments.as_slice() {
-        [root, first, second, third] => {
-            assert_eq!(rt;
-                first_difference(root.bytes.as_slice(), &ROOT_OF_THREE),
-                None
-            );
-            assert_eq!(rt;
-                (
-                    root.bytes.len(),
-                    first.address,
-                    second.address,
-                    third.address
-                ),
-                (560, 768, 1_792, 768)
-            );
-            assert_eq!(rt;
-                (first.bytes.len(), second.bytes.len(), third.bytes.len()),
-                (528, 528, 528)
-            );
-            // the call in the second region goes by a stub
-            assert_eq!(rt; word(second.bytes.as_slice(), 4), Some(0x337f_3d80));
-        }
-        _ => return Err("not four segments".into()),
-    }
-    // the table names the places of the regions in the file
-    assert_eq!(rt; file.len(), 3_192);
-    assert_eq!(rt; word(file.as_slice(), 896), Some(0x3500_0000));
-    assert_eq!(rt; word(file.as_slice(), 1_536), Some(0x1cf8_0081));
+    assert_eq!(rt;
+        spans(&exec),
+        Some([(128, 560), (768, 528), (1_792, 528), (768, 528)])
+    );
+    assert_eq!(rt; first_difference(root_of(&exec), &ROOT_OF_THREE), None);
+    // the regions stand in the file where the table says; the second one's call goes by a stub
+    let bytes = file.as_slice();
+    assert_eq!(rt;
+        (file.len(), word(bytes, 896), word(bytes, 1_540)),
+        (3_192, Some(0x3500_0000), Some(0x337f_3d80))
+    );
     Ok(())
 }
 
