@@ -7,8 +7,6 @@ mod needed;
 mod peel;
 mod reach;
 mod solve;
-#[cfg(test)]
-mod tests;
 mod trace;
 
 pub use fault::GraphFault;

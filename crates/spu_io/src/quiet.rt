@@ -114,27 +114,3 @@ impl Sink for QuietSink {
         Ok(())
     }
 }
-
-#[cfg(test)]
-mod tests {
-    use super::*;
-    use std::test::Fail;
-
-    #[test]
-    fn what_is_written_is_read(rt: HostRuntime) -> Result<(), Fail> {
-        let mut files = QuietFiles::new(rt.alloc());
-        assert_eq!(rt; files.hold("a", b"12"), Ok(()));
-        assert_eq!(rt; files.write("b", b"345"), Ok(()));
-        let held = files.get("a").ok_or("nothing held")?;
-        assert_eq!(rt; held, b"12".as_slice());
-        let read = files.read(rt.alloc(), "b").ok().ok_or("not read")?;
-        assert_eq!(rt; read.as_slice(), b"345".as_slice());
-        let missing = files.read(rt.alloc(), "c").ok().ok_or("not read")?;
-        assert!(rt; missing.is_empty());
-        let mut sink = QuietSink::new(rt.alloc());
-        assert_eq!(rt; sink.put(b"one "), Ok(()));
-        assert_eq!(rt; sink.put(b"two"), Ok(()));
-        assert_eq!(rt; sink.as_slice(), b"one two".as_slice());
-        Ok(())
-    }
-}

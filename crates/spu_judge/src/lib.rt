@@ -6,8 +6,6 @@ mod building;
 mod judging;
 mod outcome;
 mod telling;
-#[cfg(test)]
-mod tests;
 
 pub use judging::judge_program;
 pub use outcome::{JudgeFault, Judged};

@@ -2,8 +2,6 @@
 #![tactic(auto)]
 
 mod map;
-#[cfg(test)]
-mod map_tests;
 mod stack;
 mod texts;
 

@@ -57,27 +57,3 @@ pub fn stack_text(alloc: Global, p: &Prog, d: &Depths, n: &Needs) -> Result<Byte
     }
     Ok(text)
 }
-
-#[cfg(test)]
-mod tests {
-    use super::*;
-    use spu_judge::judge_program;
-    use spu_samples::{CALLER, LEAF, MIDDLE, NONE, program};
-    use std::test::Fail;
-
-    // `main` calls `a` and `b`, `a` calls `b`; nothing calls the last function
-    #[test]
-    fn stack_is_told(rt: HostRuntime) -> Result<(), Fail> {
-        let bodies = [CALLER, MIDDLE, LEAF, LEAF];
-        let prog = program(rt.alloc(), &bodies, NONE)?.ok_or("not well formed")?;
-        match judge_program(rt.alloc(), prog, 96) {
-            Ok(judged) => {
-                let text = stack_text(rt.alloc(), &judged.prog, &judged.depths, &judged.needs)?;
-                let wanted = b"frame 32 need 96 main\nframe 48 need 64 a\nframe 16 need 16 b\n";
-                assert_eq!(rt; text.as_slice(), wanted.as_slice());
-                Ok(())
-            }
-            Err(_) => Err("no judgement".into()),
-        }
-    }
-}

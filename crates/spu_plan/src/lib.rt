@@ -7,8 +7,6 @@ mod input;
 pub mod laws;
 mod making;
 mod plan;
-#[cfg(test)]
-mod tests;
 
 pub use input::{Mode, PlanInput};
 pub use making::{PlanFault, make_plan};

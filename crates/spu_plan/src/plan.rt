@@ -49,17 +49,3 @@ pub fn flat_plan(alloc: Global, data_end: u32, sizes: &[u32]) -> Result<Plan, Ou
         buffers: 0,
     })
 }
-
-#[cfg(test)]
-mod tests {
-    use super::*;
-    use std::test::Fail;
-
-    #[test]
-    fn keeps_all_in_the_root(rt: HostRuntime) -> Result<(), Fail> {
-        let plan = flat_plan(rt.alloc(), 128, &[16, 48]).ok().ok_or("memory")?;
-        assert_eq!(rt; (plan.overlay, plan.end), (false, 224));
-        assert_eq!(rt; plan.region_of.as_slice(), [0, 0].as_slice());
-        Ok(())
-    }
-}

@@ -6,8 +6,6 @@ mod line;
 mod lines;
 mod numbers;
 mod scanning;
-#[cfg(test)]
-mod tests;
 
 pub use lexemes::{TextFault, Token, TokenKind};
 pub use line::{Piece, first_line, read_line};

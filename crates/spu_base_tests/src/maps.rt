@@ -1,7 +1,9 @@
 //! The maps of two executables, flat and with overlays.
 
-use crate::map_text;
 use spu_elf::{Exec, Segment, SymKind, SymPlace, Symbol};
+use spu_judge::judge_program;
+use spu_map::{map_text, stack_text};
+use spu_samples::{CALLER, LEAF, MIDDLE, NONE, program};
 use spu_word::{Bytes, OutOfMemory, Seq};
 use std::alloc::Global;
 use std::test::Fail;
@@ -163,4 +165,20 @@ object 2000 4 table
 ";
     assert_eq!(rt; text.as_slice(), map.as_slice());
     Ok(())
+}
+
+// `main` calls `a` and `b`, `a` calls `b`; nothing calls the last function
+#[test]
+fn stack_is_told(rt: HostRuntime) -> Result<(), Fail> {
+    let bodies = [CALLER, MIDDLE, LEAF, LEAF];
+    let prog = program(rt.alloc(), &bodies, NONE)?.ok_or("not well formed")?;
+    match judge_program(rt.alloc(), prog, 96) {
+        Ok(judged) => {
+            let text = stack_text(rt.alloc(), &judged.prog, &judged.depths, &judged.needs)?;
+            let wanted = b"frame 32 need 96 main\nframe 48 need 64 a\nframe 16 need 16 b\n";
+            assert_eq!(rt; text.as_slice(), wanted.as_slice());
+            Ok(())
+        }
+        Err(_) => Err("no judgement".into()),
+    }
 }

@@ -2,7 +2,7 @@ use Rattle.std.proofs.Common.{◌≡◌, ◌≤◌, ℕ, length}
 use Rattle.std.specs.Prelude.{All}
 use Rattle.spu_word.specs.declared.limits.TheConstants.{MAX_STACK_LIMIT}
 use Rattle.spu_graph.specs.Graphs.{frames_of}
-use Rattle.spu_graph.proofs.tests.chain.Given as goal
+use Rattle.spu_base_tests.proofs.graphs.chain.Given as goal
 
 abbrev pub invariant-loop : goal.invariant-loop
 invariant-loop l = record {

@@ -1,7 +1,9 @@
+//! Tokens of texts.
+
 ghost use Rattle.std.specs.Prelude.{◌≤◌, length};
 ghost use Rattle.spu_word.specs.declared.limits.TheConstants.{MAX_FILE_SIZE};
 
-use crate::{TextFault, Token, TokenKind, tokens};
+use spu_text::{TextFault, Token, TokenKind, tokens};
 use std::alloc::Global;
 use std::test::Fail;
 

@@ -1,7 +1,9 @@
+//! Needs of graphs.
+
 ghost use Rattle.std.specs.Prelude.{◌≡◌, ◌<◌, ◌≤◌, ℕ, length, IfOk};
 ghost use Rattle.spu_graph.specs.Graphs.{frames_of};
 
-use crate::{Graph, GraphFault};
+use spu_graph::{Graph, GraphFault};
 use spu_word::{OutOfMemory, Seq};
 use std::alloc::Global;
 use std::test::Fail;

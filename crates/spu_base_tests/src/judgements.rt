@@ -1,9 +1,9 @@
 //! Tests of judgements, on small programs.
 
-use crate::{JudgeFault, Judged, judge_program};
 use spu_elf::is_same;
 use spu_frame::{FrameKind, frames};
 use spu_isa::Op;
+use spu_judge::{JudgeFault, Judged, judge_program};
 use spu_samples::{CALLER, LEAF, MIDDLE, NONE, Step, Taken, name_at, program};
 use spu_word::Bytes;
 use spu_word::limits::MAX_STACK_LIMIT;

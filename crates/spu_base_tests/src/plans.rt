@@ -1,6 +1,6 @@
 //! Plans of small programs.
 
-use super::{Mode, Plan, PlanFault, PlanInput, make_plan};
+use spu_plan::{Mode, Plan, PlanFault, PlanInput, flat_plan, make_plan};
 use spu_word::Seq;
 use std::alloc::Global;
 use std::test::Fail;
@@ -136,4 +136,12 @@ fn three_sections(alloc: Global, three: [u32; 3], row: &Row) -> Result<Plan, Fai
         Ok(plan) => Ok(plan),
         Err(_fault) => Err(Fail::from("no plan")),
     }
+}
+
+#[test]
+fn keeps_all_in_the_root(rt: HostRuntime) -> Result<(), Fail> {
+    let plan = flat_plan(rt.alloc(), 128, &[16, 48]).ok().ok_or("memory")?;
+    assert_eq!(rt; (plan.overlay, plan.end), (false, 224));
+    assert_eq!(rt; plan.region_of.as_slice(), [0, 0].as_slice());
+    Ok(())
 }
