@@ -19,4 +19,3 @@ mod words;
 pub use judged_linking::link_judged;
 pub use linking::{judge, link};
 pub use outcome::{LinkFault, LinkOptions, Linked};
-pub use overlays::overlay_exec;
