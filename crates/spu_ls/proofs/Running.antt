@@ -1,5 +1,7 @@
 -- Steps of a state that runs, and of one that has ended.
-use Rattle.std.proofs.Common.{◌≡◌, ℕ, zero, suc, ◌+◌, ◌-◌, ◌<◌, Option, Some, None, refl, sym, ap, ◌∙◌, arith, pos}
+use Rattle.std.proofs.Common.{◌≡◌, ℕ, zero, suc, ◌+◌, ◌-◌, ◌<◌, ◌≤◌, List, [], ◌∷◌, ◌++◌, length, drop, Bool, true, false, Option, Some, None, refl, sym, ap, ◌∙◌, arith, pos, cond}
+use Rattle.std.specs.Prelude.{is_none, is_some, if◌then◌else◌}
+use Rattle.std.proofs.lemmas.List.{drop-append-le}
 use Rattle.spu_isa.specs.declared.instruction.Inst.{Inst}
 use Rattle.spu_isa.specs.declared.operation.Op.{Op}
 use Rattle.spu_isa.specs.declared.operation.Op.TheVariants as op
@@ -10,6 +12,8 @@ use Rattle.spu_isa.proofs.Words.{in_range_from_Decodes}
 use Rattle.spu_ls.specs.View.{HasRegisters}
 use Rattle.spu_ls.proofs.Fields.{has_registers}
 use Rattle.spu_ls.specs.Stores.{fetch}
+use Rattle.spu_ls.specs.Mailbox.{next_of, next_by, next_mail_of}
+use Rattle.spu_ls.specs.declared.mailbox.NextMail.TheVariants as next
 use Rattle.spu_ls.specs.Machine.{State, counts, uses_channel, obeys, unless_ended, step, steps}
 use Rattle.spu_ls.specs.declared.ending.RunEnd.{RunEnd}
 
@@ -58,3 +62,18 @@ pub counted : (o : Op) (x : Inst) (p : ℕ) (s : State) → (o ≡ op.Wrch → �
 counted op.Wrch x p s w r = absurd (w refl)
 counted op.Rdch x p s w r = absurd (r refl)
 counted _ x p s w r = refl
+
+-- words given behind those that are left
+pub given : (words : List ℕ) (taken w : ℕ) → taken ≤ length words → drop taken (words ++ w ∷ []) ≡ drop taken words ++ w ∷ []
+given words taken w le = drop-append-le taken words (w ∷ []) le
+
+-- what the next step does with the mailbox, where the machine runs and the word at pc is this instruction
+pub next_told : (s : State) (x : Inst) (left : ℕ) → is_none s.ended ≡ true → Some x ≡ decoded (fetch s.store s.pc) → left ≡ length s.mail → next_of x.op x.ra left ≡ next_mail_of s
+next_told s x left runs is all =
+    ap (next_of x.op x.ra) all
+    ∙ ap (λ (o : Option Inst). next_by o (length s.mail)) is
+    ∙ sym (ap (λ (b : Bool). if b then next_by (decoded (fetch s.store s.pc)) (length s.mail) else next.Other) runs)
+
+pub still_runs : (o : Option RunEnd) (b : Bool) → b ≡ is_some o → b ≡ false → is_none o ≡ true
+still_runs None b e f = refl
+still_runs (Some x) b e f = absurd cc

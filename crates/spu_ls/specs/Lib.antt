@@ -10,3 +10,4 @@ pub mod Hops
 pub mod Loads
 pub mod Sound
 pub mod Kept
+pub mod Mailbox

@@ -1,6 +1,6 @@
 //! The machine and its steps.
 
-ghost use Rattle.std.specs.Prelude.{◌≡◌, ◌≢◌, ◌↔◌, ◌⊎◌, ◌+◌, ◌*◌, ◌/◌, ◌%◌, ◌^◌, ◌<◌, ◌≤◌, ℕ, true, false, List, [], ◌∷◌, slice_index_or, length, vec_len, vec_capacity, IfOk, IfSome, Option, Some, None};
+ghost use Rattle.std.specs.Prelude.{◌≡◌, ◌≢◌, ◌↔◌, ◌⊎◌, ◌+◌, ◌*◌, ◌/◌, ◌%◌, ◌^◌, ◌<◌, ◌≤◌, ℕ, true, false, List, [], ◌∷◌, slice_index_or, length, vec_len, vec_capacity, IfErr, IfOk, IfSome, Option, Some, None};
 ghost use Rattle.spu_exec.specs.Places.{code_mask, place};
 ghost use Rattle.spu_word.specs.declared.limits.TheConstants.{OUTBOX_SIZE, QUAD_SIZE, QUEUE_SIZE, REGISTER_COUNT, STORE_SIZE, WORD_SIZE};
 ghost use Rattle.spu_exec.specs.declared.channels.TheConstants.{TAG_COUNT};
@@ -21,6 +21,7 @@ use crate::ending::{RunEnd, Tick};
 use crate::entries::{area_name, image_quad, is_entry};
 use crate::kept::Kept;
 use crate::landing::{get_from, put_to};
+use crate::mailbox::{NextMail, next_of};
 use crate::local_store::{preferred, put_bytes, put_quad, quad_at, word_at};
 use spu_elf::Symbol;
 use spu_exec::areas::copied_areas;
@@ -62,6 +63,8 @@ pub struct Machine {
     mail: Vec<u32>,
     /// How many words of `mail` were read.
     taken: usize,
+    /// How many words can be given.
+    spare: usize,
     output: Vec<u32>,
     steps: u64,
     ended: Option<RunEnd>,
@@ -74,6 +77,7 @@ pub struct Machine {
     ghost few_wait: { vec_len queue ≤ QUEUE_SIZE },
     ghost waiting: { AllWaiting queue.items },
     ghost inside: { pc + WORD_SIZE ≤ STORE_SIZE },
+    ghost mail_room: { vec_len mail + spare ≤ vec_capacity mail },
     ghost within: { taken ≤ vec_len mail },
     ghost room: { OUTBOX_SIZE ≤ vec_capacity output },
     ghost not_over: { vec_len output ≤ OUTBOX_SIZE },
@@ -103,6 +107,8 @@ fn landing_tags(update: u32, mask: u32, queue: &[Transfer]) -> [bool; TAGS]
 impl Machine {
     ghost use Rattle.spu_ls.specs.View.{state_of, HasRegisters, places, keeps, is_kept, enters, enters_all, enters_image, IsEntryInside};
     ghost use Rattle.spu_ls.specs.Kept.{inst_of};
+    ghost use Rattle.spu_ls.specs.Mailbox.{spare, gives, next_mail_of};
+    ghost use Rattle.std.specs.Prelude.{OnOk};
     ghost use Rattle.spu_ls.specs.declared.kept.Kept.{Kept};
     ghost use Rattle.std.specs.Option.{option_map};
     ghost use Rattle.std.specs.List.{All};
@@ -140,6 +146,7 @@ impl Machine {
             image,
             mail,
             taken: 0,
+            spare: 0,
             output,
             steps: 0,
             ended: None,
@@ -204,6 +211,7 @@ impl Machine {
         requires count { self.old.steps + 1 < 2 ^ 64 }
         ensures exact { state_of self.new ≡ goes to (state_of self.old) }
         ensures count { self.new.steps ≡ self.old.steps + 1 }
+        ensures spare { self.new.spare ≡ self.old.spare }
     {
         self.pc = to;
         self.steps += 1;
@@ -217,6 +225,7 @@ impl Machine {
         requires count { self.old.steps + 1 < 2 ^ 64 }
         ensures exact { state_of self.new ≡ sets r quad.0 to (state_of self.old) }
         ensures count { self.new.steps ≡ self.old.steps + 1 }
+        ensures spare { self.new.spare ≡ self.old.spare }
     {
         self.regs[r as usize] = quad;
         self.pc = to;
@@ -232,6 +241,7 @@ impl Machine {
         requires count { self.old.steps + 1 < 2 ^ 64 }
         ensures exact { state_of self.new ≡ saves at r to (state_of self.old) }
         ensures count { self.new.steps ≡ self.old.steps + 1 }
+        ensures spare { self.new.spare ≡ self.old.spare }
     {
         put_quad(&mut self.store, at as usize, &self.regs[r as usize]);
         self.go(to);
@@ -243,6 +253,7 @@ impl Machine {
         requires count { self.old.steps + 1 < 2 ^ 64 }
         ensures exact { state_of self.new ≡ ends end (state_of self.old) }
         ensures count { self.new.steps ≡ self.old.steps + 1 }
+        ensures spare { self.new.spare ≡ self.old.spare }
     {
         self.ended = Some(end);
         self.steps += 1;
@@ -254,6 +265,7 @@ impl Machine {
         requires count { self.old.steps + 1 < 2 ^ 64 }
         ensures exact { state_of self.new ≡ sends word to (state_of self.old) }
         ensures count { self.new.steps ≡ self.old.steps + 1 }
+        ensures spare { self.new.spare ≡ self.old.spare }
     {
         if self.output.len() == OUTBOX_SIZE as usize {
             self.end(RunEnd::OutboxFull);
@@ -269,6 +281,7 @@ impl Machine {
         requires count { self.old.steps + 1 < 2 ^ 64 }
         ensures exact { state_of self.new ≡ updates word to (state_of self.old) }
         ensures count { self.new.steps ≡ self.old.steps + 1 }
+        ensures spare { self.new.spare ≡ self.old.spare }
     {
         if is_update(word) {
             self.update = Some(word);
@@ -285,6 +298,7 @@ impl Machine {
         requires count { self.old.steps + 1 < 2 ^ 64 }
         ensures exact { state_of self.new ≡ keeps channel word to (state_of self.old) }
         ensures count { self.new.steps ≡ self.old.steps + 1 }
+        ensures spare { self.new.spare ≡ self.old.spare }
     {
         self.channels = self.channels.with(channel, word);
         self.go(to);
@@ -296,6 +310,7 @@ impl Machine {
         ensures exact { state_of self.new ≡ lands (t.now ∷ []) (state_of self.old) }
         ensures queue { self.new.queue ≡ self.old.queue }
         ensures count { self.new.steps ≡ self.old.steps }
+        ensures spare { self.new.spare ≡ self.old.spare }
     {
         match t.form {
             Form::Put => put_to(&mut self.areas, &self.store, t),
@@ -308,6 +323,7 @@ impl Machine {
         ensures exact { state_of self.new ≡ makes_room (state_of self.old) }
         ensures room { vec_len self.new.queue < QUEUE_SIZE }
         ensures count { self.new.steps ≡ self.old.steps }
+        ensures spare { self.new.spare ≡ self.old.spare }
     {
         if self.queue.len() == QUEUE_SIZE as usize {
             let t = self.queue.remove(0);
@@ -321,6 +337,7 @@ impl Machine {
         requires count { self.old.steps + 1 < 2 ^ 64 }
         ensures exact { state_of self.new ≡ commands (form_of word) to (state_of self.old) }
         ensures count { self.new.steps ≡ self.old.steps + 1 }
+        ensures spare { self.new.spare ≡ self.old.spare }
     {
         match form_of(word) {
             Some(form) => self.judge(form, to),
@@ -334,6 +351,7 @@ impl Machine {
         requires count { self.old.steps + 1 < 2 ^ 64 }
         ensures exact { state_of self.new ≡ commands (Some form) to (state_of self.old) }
         ensures count { self.new.steps ≡ self.old.steps + 1 }
+        ensures spare { self.new.spare ≡ self.old.spare }
     {
         let t = self.channels.transfer(form);
         if is_taken(&t, self.image_ea, &self.image, &self.areas) {
@@ -351,6 +369,7 @@ impl Machine {
         requires count { self.old.steps + 1 < 2 ^ 64 }
         ensures exact { state_of self.new ≡ writes channel word to (state_of self.old) }
         ensures count { self.new.steps ≡ self.old.steps + 1 }
+        ensures spare { self.new.spare ≡ self.old.spare }
     {
         match channel {
             SPU_WR_OUT_MBOX => self.send(word, to),
@@ -370,6 +389,7 @@ impl Machine {
         requires count { self.old.steps + 1 < 2 ^ 64 }
         ensures exact { state_of self.new ≡ takes (state_of self.old).mail r to (state_of self.old) }
         ensures count { self.new.steps ≡ self.old.steps + 1 }
+        ensures spare { self.new.spare ≡ self.old.spare }
     {
         if self.taken < self.mail.len() {
             let word = self.mail[self.taken];
@@ -384,6 +404,7 @@ impl Machine {
     fn land_tags(&mut self, tags: [bool; TAGS])
         ensures exact { state_of self.new ≡ lands_tags (λ tag. slice_index_or tags tag false) (state_of self.old) }
         ensures count { self.new.steps ≡ self.old.steps }
+        ensures spare { self.new.spare ≡ self.old.spare }
     {
         let mut i = 0;
         while i < self.queue.len() {
@@ -404,6 +425,7 @@ impl Machine {
         requires count { self.old.steps + 1 < 2 ^ 64 }
         ensures exact { state_of self.new ≡ answers (state_of self.old).update r to (state_of self.old) }
         ensures count { self.new.steps ≡ self.old.steps + 1 }
+        ensures spare { self.new.spare ≡ self.old.spare }
     {
         match self.update {
             Some(update) => {
@@ -425,6 +447,7 @@ impl Machine {
         requires count { self.old.steps + 1 < 2 ^ 64 }
         ensures exact { state_of self.new ≡ reads channel r to (state_of self.old) }
         ensures count { self.new.steps ≡ self.old.steps + 1 }
+        ensures spare { self.new.spare ≡ self.old.spare }
     {
         match channel {
             SPU_RD_IN_MBOX => self.take(r, to),
@@ -454,6 +477,7 @@ impl Machine {
         requires count { self.old.steps + 1 < 2 ^ 64 }
         ensures exact { state_of self.new ≡ counts channel r to (state_of self.old) }
         ensures count { self.new.steps ≡ self.old.steps + 1 }
+        ensures spare { self.new.spare ≡ self.old.spare }
     {
         if is_counted(channel) {
             self.set(r, preferred(self.count(channel)), to);
@@ -469,6 +493,7 @@ impl Machine {
         requires count { self.old.steps + 1 < 2 ^ 64 }
         ensures exact { state_of self.new ≡ uses_channel x.now.op x.now to (state_of self.old) }
         ensures count { self.new.steps ≡ self.old.steps + 1 }
+        ensures spare { self.new.spare ≡ self.old.spare }
     {
         match x.op {
             Op::Wrch => self.write(u32::from(x.ra), word(self.quad(x.rt), 0), to),
@@ -500,6 +525,7 @@ impl Machine {
         requires count { self.old.steps + 1 < 2 ^ 64 }
         ensures exact { state_of self.new ≡ acts kind.Compute x.now next (state_of self.old) }
         ensures count { self.new.steps ≡ self.old.steps + 1 }
+        ensures spare { self.new.spare ≡ self.old.spare }
     {
         let a = *self.quad(x.ra);
         let b = *self.quad(x.rb);
@@ -517,6 +543,7 @@ impl Machine {
         requires count { self.old.steps + 1 < 2 ^ 64 }
         ensures exact { state_of self.new ≡ acts kind x.now next (state_of self.old) }
         ensures count { self.new.steps ≡ self.old.steps + 1 }
+        ensures spare { self.new.spare ≡ self.old.spare }
     {
         match kind {
             Kind::Compute => self.compute(x, next),
@@ -556,6 +583,7 @@ impl Machine {
         requires count { self.old.steps + 1 < 2 ^ 64 }
         ensures exact { state_of self.new ≡ obeys (Some (inst_of kept)) (state_of self.old) }
         ensures count { self.new.steps ≡ self.old.steps + 1 }
+        ensures spare { self.new.spare ≡ self.old.spare }
     {
         let next = code_word(self.pc + WORD_SIZE);
         let x = kept.inst();
@@ -570,6 +598,7 @@ impl Machine {
         ensures kept { (d : Kept) → ((slice_index_or self.new.kept.items (self.new.pc / WORD_SIZE) d).word ≡ word) ⊎ (decoded word ≡ None) }
         ensures same { state_of self.new ≡ state_of self.old }
         ensures count { self.new.steps ≡ self.old.steps }
+        ensures spare { self.new.spare ≡ self.old.spare }
     {
         if let Some(inst) = decode(word) {
             self.kept[(self.pc / WORD_SIZE) as usize] = Kept::of(word, &inst);
@@ -584,6 +613,7 @@ impl Machine {
         ensures value { option_map inst_of result ≡ decoded (fetch (state_of self.old).store (state_of self.old).pc) }
         ensures same { state_of self.new ≡ state_of self.old }
         ensures count { self.new.steps ≡ self.old.steps }
+        ensures spare { self.new.spare ≡ self.old.spare }
     {
         let word = word_at(&self.store, self.pc as usize);
         let at = (self.pc / WORD_SIZE) as usize;
@@ -602,6 +632,7 @@ impl Machine {
         requires count { self.old.steps + 1 < 2 ^ 64 }
         ensures exact { state_of self.new ≡ step (state_of self.old) }
         ensures count { self.new.steps ≡ self.old.steps + 1 }
+        ensures spare { self.new.spare ≡ self.old.spare }
     {
         match self.instruction() {
             Some(kept) => self.obey(kept),
@@ -616,6 +647,7 @@ impl Machine {
         ensures state { state_of self.new ≡ step (state_of self.old) }
         ensures tick { result ≡ tick_of (state_of self.new).ended }
         ensures count { (state_of self.new).steps ≤ (state_of self.old).steps + 1 }
+        ensures spare { spare self.new ≡ spare self.old }
     {
         match self.ended {
             Some(end) => Tick::Ended(end),
@@ -636,6 +668,7 @@ impl Machine {
         ensures end { result ≡ end_of (state_of self.new).ended }
         ensures running { (result ≡ ending.Running) ↔ ((state_of self.new).ended ≡ None) }
         ensures budget { (state_of self.new).steps ≤ (state_of self.old).steps + budget }
+        ensures spare { spare self.new ≡ spare self.old }
     {
         for _ in 0..budget {
             if let Some(end) = self.ended {
@@ -644,6 +677,54 @@ impl Machine {
             self.advance();
         }
         self.ended.unwrap_or(RunEnd::Running)
+    }
+
+    /// Makes room for as many more words of mail as an outbound mailbox holds. After a refusal nothing has changed.
+    pub fn reserve_mail(&mut self) -> Result<(), OutOfMemory>
+        ensures room { OnOk result (OUTBOX_SIZE ≤ spare self.new) }
+        ensures state { state_of self.new ≡ state_of self.old }
+        ensures spare { spare self.old ≤ spare self.new }
+        ensures refused { IfErr result (λ e. spare self.new ≡ spare self.old) }
+    {
+        if self.spare < OUTBOX_SIZE as usize {
+            self.mail.reserve(OUTBOX_SIZE as usize)?;
+            self.spare = OUTBOX_SIZE as usize;
+        }
+        Ok(())
+    }
+
+    /// Gives a word to the inbound mailbox, behind those that are left.
+    #[tactic(auto, using(crate::proofs::Running::given))]
+    pub fn give(&mut self, word: u32)
+        requires { 0 < spare self.old }
+        ensures state { state_of self.new ≡ gives (word ∷ []) (state_of self.old) }
+        ensures spare { spare self.new + 1 ≡ spare self.old }
+    {
+        let _ = self.mail.push(word);
+        self.spare -= 1;
+    }
+
+    /// What the next step does with the inbound mailbox: a read where no word is left, a count, or anything else.
+    #[tactic(auto, using(crate::proofs::Running::decoded_some, crate::proofs::Running::decoded_none))]
+    pub fn next_mail(&self) -> NextMail
+        ensures { result ≡ next_mail_of (state_of self.now) }
+    {
+        if self.ended.is_some() {
+            return NextMail::Other;
+        }
+        match decode(word_at(&self.store, self.pc as usize)) {
+            Some(x) => next_of(x.op, u32::from(x.ra), self.mail.len() - self.taken),
+            None => NextMail::Other,
+        }
+    }
+
+    /// The word of local store at an address, which is a multiple of 4.
+    pub fn store_word(&self, at: u32) -> u32
+        requires aligned { at % WORD_SIZE ≡ 0 }
+        requires inside { at < STORE_SIZE }
+        ensures { result ≡ fetch (state_of self.now).store at }
+    {
+        word_at(&self.store, at as usize)
     }
 
     /// The words that were written to the outbound mailbox, in order.

@@ -12,6 +12,7 @@ loop-i-preserved-then-tags-t c = record {
       ∙ c.loop-i.invariant.rest;
   within = (let e : vec_len c.land.new.self.queue ≡ vec_len c.remove.new.self = ap vec_len c.land.ensures.queue in omega (arith, c.remove.ensures.len));
   steps = c.land.ensures.count ∙ c.loop-i.invariant.steps;
+  spare = c.land.ensures.spare ∙ c.loop-i.invariant.spare;
 }
 
 pub returns-clause-exact : goal.returns-clause-exact

@@ -11,4 +11,5 @@ returns-in_default c = record {
       ∙ ap (λ (n : ℕ). counts n c.args.x.now.rt c.args.to (state_of c.args.self.now)) c.from-in_default.ensures
       ∙ sym (counted c.args.x.now.op c.args.x.now c.args.to (state_of c.args.self.now) c.in_default.not-Wrch c.in_default.not-Rdch);
   count = c.give_count.ensures.count;
+  spare = c.give_count.ensures.spare;
 }
