@@ -693,7 +693,7 @@ impl Machine {
         Ok(())
     }
 
-    /// Gives a word to the inbound mailbox, behind those that are left.
+    /// Gives a word to the inbound mailbox, behind those that are left. There is room for one at least.
     #[tactic(auto, using(crate::proofs::Running::given))]
     pub fn give(&mut self, word: u32)
         requires { 0 < spare self.old }
@@ -729,7 +729,8 @@ impl Machine {
 
     /// The words that were written to the outbound mailbox, in order.
     pub fn output(&self) -> &[u32]
-        ensures { result.now ≡ (state_of self.now).output }
+        ensures words { result.now ≡ (state_of self.now).output }
+        ensures few { length result.now ≤ OUTBOX_SIZE }
     {
         &self.output
     }
